@@ -5,6 +5,10 @@ use mathlib.Core.Bool.{Bool, true, false}
 use native.Mathlib.Omega.{arith}
 use Rattle.laws.specs.Answers.{Answer, gives, refuses, must, then}
 
+-- two values that are given are equal if the answers are
+pub given : {A : Type 0} {a b : A} → gives a ≡ gives b → a ≡ b
+given e = cc
+
 -- a value is no refusal
 pub no-refusal : {A : Type 0} {a : A} {n x : ℕ} → refuses n x ≡ gives a → ⊥
 no-refusal e = let z : _≡_ {A = ℕ} 0 1 = cc in omega arith

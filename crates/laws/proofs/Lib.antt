@@ -1,2 +1,5 @@
 pub mod Rules
 pub mod Chain
+pub mod ReadBack
+pub mod Bits
+pub mod Halving
