@@ -1,0 +1,5 @@
+pub mod Checks
+pub mod Bytes
+pub mod Stores
+pub mod Replaced
+pub mod Laws

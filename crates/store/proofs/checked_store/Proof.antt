@@ -1,0 +1,38 @@
+-- `store::checked_store` meets its contract. Assumes nothing.
+use Rattle.store.proofs.Checks.{faults-refused, other-faults, its-faults}
+use borrow.Author.Needs.{needs}
+use Rattle.store.proofs.checked_store.Statement.{statement}
+use Rattle.store.proofs.checked_store.Tie as tie
+
+checked-image-requires : tie.Need-checked-image-requires
+checked-image-requires c κs = search needs
+
+enum-known-refusal : tie.Need-enum-known-refusal
+enum-known-refusal c = search needs
+
+enum-told : tie.Need-enum-told
+enum-told c = search needs
+
+refused-requires : tie.Need-refused-requires
+refused-requires c κs = search needs
+
+returns : tie.Need-returns
+returns c = search (other-faults, needs)
+
+returns-2 : tie.Need-returns-2
+returns-2 c = search (faults-refused, needs)
+
+returns-3 : tie.Need-returns-3
+returns-3 c = search (its-faults, needs)
+
+pub checked-store-spec : {M : Type 1} → statement M
+checked-store-spec =
+    tie.close
+    (tie.spec
+    checked-image-requires
+    enum-known-refusal
+    enum-told
+    refused-requires
+    returns
+    returns-2
+    returns-3)
