@@ -1,16 +1,16 @@
 -- The tests that come first in every call of an image, 5 and 17: what each way out shows. Assumes nothing.
-use Prim.Native.Nat.{ℕ, _+_, _-_, _/_, _%_, _≤_, _<_}
+use Prim.Native.Nat.{ℕ, _+_, _-_, _%_, _≤_, _<_}
 use mathlib.Core.Path.{_≡_, refl, sym, ap, _∙_}
 use mathlib.Core.Bool.{Bool, true, false, cond, not}
 use native.Mathlib.Omega.{arith}
-use borrow.Author.Tests.{eq-eqb, ne-eqb, le-leb, lt-leb, lt-ltb, le-ltb, eqb-true, leb-true, ltb-true, not-true, not-false}
+use borrow.Author.Tests.{eq-eqb, ne-eqb, le-leb, lt-leb, lt-ltb, eqb-true, leb-true, ltb-true, not-true, not-false}
 use lib.Dec.{eqb, leb, ltb}
 use Rattle.laws.specs.Refusals.{invalidLayout, badLength}
 use Rattle.laws.specs.Answers.{Answer, gives, refuses, refusal, must}
 use Rattle.laws.specs.declared.Refusal.{Refusal}
 use Rattle.laws.proofs.Chain.{no-refusal, passed}
 use Rattle.layout.specs.Layout.{validCapacity}
-use Rattle.store.specs.Store.{told, onImage, onStore, onMask, Held, inOnePage, isSector}
+use Rattle.store.specs.Store.{told, onImage, onLengths, inOnePage, isSector}
 use Rattle.store.specs.declared.StoreAnswer.{StoreAnswer}
 use Rattle.store.specs.declared.StoreAnswer.the-variants.{Done, Refused}
 
@@ -20,9 +20,9 @@ pub on-image : {A : Type 0} (c n : ℕ) (rest : Answer A) → validCapacity c �
 unfolding onImage
 on-image c n rest v h = rw (v, eq-eqb n c h) refl
 
-pub on-store : {A : Type 0} (c n f : ℕ) (rest : Answer A) → Held c n f → onStore c n f rest ≡ rest
-unfolding onStore
-on-store c n f rest h = on-image c n _ (h .valid) (h .whole) ∙ rw (eq-eqb f (c / 256) (h .each)) refl
+pub on-lengths : {A : Type 0} (c n l w : ℕ) (rest : Answer A) → validCapacity c ≡ true → n ≡ c → l ≡ w → onLengths c n l w rest ≡ rest
+unfolding onLengths
+on-lengths c n l w rest v h k = on-image c n _ v h ∙ rw (eq-eqb l w k) refl
 
 -- a value got through the tests
 pub held-image : {A : Type 0} (c n : ℕ) (rest : Answer A) (a : A) → onImage c n rest ≡ gives a
@@ -32,6 +32,14 @@ held-image c n rest a e =
     let v = passed (validCapacity c) invalidLayout _ a e in
     let l = passed (eqb n c) badLength rest a (v .1) in
     (v .0, eqb-true n c (l .0), l .1)
+
+pub held-lengths : {A : Type 0} (c n l w : ℕ) (rest : Answer A) (a : A) → onLengths c n l w rest ≡ gives a
+    → (validCapacity c ≡ true) × (n ≡ c) × (l ≡ w) × (rest ≡ gives a)
+unfolding onLengths
+held-lengths c n l w rest a e =
+    let i = held-image c n (must (eqb l w) badLength rest) a e in
+    let p = passed (eqb l w) badLength rest a (i .2) in
+    (i .0, i .1, eqb-true l w (p .0), p .1)
 
 -- a refusal of the tests alone is one of the whole
 refused-image : {A B : Type 0} (c n : ℕ) (one : A) (rest : Answer B) (x y : ℕ) → refuses x y ≡ onImage c n (gives one)
@@ -45,13 +53,18 @@ refused-image {A} {B} c n one rest x y e = go (validCapacity c) (eqb n c) e
     go true false h = let s : x ≡ badLength = cc in let t : y ≡ 0 = cc in rw (s, t) refl
     go false q h = let s : x ≡ invalidLayout = cc in let t : y ≡ 0 = cc in rw (s, t) refl
 
-refused-store : {A : Type 0} (rest : Answer A) (p q s : Bool) (x y : ℕ)
-    → refuses x y ≡ must {A = Unit {0}} p invalidLayout (must q badLength (must s badLength (gives tt)))
+three-tests : {A B : Type 0} (one : A) (rest : Answer B) (p q s : Bool) (x y : ℕ)
+    → refuses x y ≡ must p invalidLayout (must q badLength (must s badLength (gives one)))
     → refuses x y ≡ must p invalidLayout (must q badLength (must s badLength rest))
-refused-store rest true true true x y h = absurd (no-refusal h)
-refused-store rest true true false x y h = let u : x ≡ badLength = cc in let v : y ≡ 0 = cc in rw (u, v) refl
-refused-store rest true false s x y h = let u : x ≡ badLength = cc in let v : y ≡ 0 = cc in rw (u, v) refl
-refused-store rest false q s x y h = let u : x ≡ invalidLayout = cc in let v : y ≡ 0 = cc in rw (u, v) refl
+three-tests one rest true true true x y h = absurd (no-refusal h)
+three-tests one rest true true false x y h = let u : x ≡ badLength = cc in let v : y ≡ 0 = cc in rw (u, v) refl
+three-tests one rest true false s x y h = let u : x ≡ badLength = cc in let v : y ≡ 0 = cc in rw (u, v) refl
+three-tests one rest false q s x y h = let u : x ≡ invalidLayout = cc in let v : y ≡ 0 = cc in rw (u, v) refl
+
+pub refused-lengths : {A B : Type 0} (c n l w : ℕ) (one : A) (rest : Answer B) (x y : ℕ) → refuses x y ≡ onLengths c n l w (gives one)
+    → refuses x y ≡ onLengths c n l w rest
+unfolding onLengths onImage
+refused-lengths c n l w one rest x y e = three-tests one rest (validCapacity c) (eqb n c) (eqb l w) x y e
 
 -- ---- checked_image
 
@@ -71,7 +84,7 @@ module _ (c n : ℕ) (b : Bool) (e : b ≡ validCapacity c) where
   unfolding onImage
   its-length h l = rw (← e, not-false b h, eq-eqb n c l) refl
 
--- ---- after checked_image, and after checked_store
+-- ---- after checked_image: one more length
 
 module _ (c n : ℕ) (a : StoreAnswer) (e : told a ≡ onImage c n (gives tt)) where
   pub image-refused : {A : Type 0} (rest : Answer A) (x : Refusal) → a ≡ Refused x → refuses (x .number) (x .fault) ≡ onImage c n rest
@@ -80,30 +93,31 @@ module _ (c n : ℕ) (a : StoreAnswer) (e : told a ≡ onImage c n (gives tt)) w
   pub image-held : a ≡ Done → (validCapacity c ≡ true) × (n ≡ c)
   image-held w = let h = held-image c n (gives tt) tt (sym e ∙ ap told w) in (h .0, h .1)
 
-  pub faults-refused : (f : ℕ) (x : Refusal) → a ≡ Refused x → told (Refused x) ≡ onStore c n f (gives tt)
-  unfolding onStore
-  faults-refused f x w = image-refused _ x w
+  pub no-image : (l w : ℕ) (x : Refusal) → a ≡ Refused x → told (Refused x) ≡ onLengths c n l w (gives tt)
+  unfolding onLengths
+  no-image l w x h = image-refused _ x h
 
-  pub other-faults : (f : ℕ) (r : Refusal) → a ≡ Done → (f ≡ c / 256 → ⊥) → r ≡ refusal badLength 0 → told (Refused r) ≡ onStore c n f (gives tt)
-  unfolding onStore
-  other-faults f r w l h =
-      let k = image-held w in
-      told-refused h (sym (on-image c n _ (k .0) (k .1) ∙ rw (ne-eqb f (c / 256) l) refl))
+  pub other-lengths : (l w : ℕ) (r : Refusal) → a ≡ Done → (l ≡ w → ⊥) → r ≡ refusal badLength 0 → told (Refused r) ≡ onLengths c n l w (gives tt)
+  unfolding onLengths
+  other-lengths l w r h d k =
+      let i = image-held h in
+      told-refused k (sym (on-image c n _ (i .0) (i .1) ∙ rw (ne-eqb l w d) refl))
 
-  pub its-faults : (f : ℕ) → a ≡ Done → f ≡ c / 256 → told Done ≡ onStore c n f (gives tt)
-  unfolding onStore
-  its-faults f w l = let k = image-held w in sym (on-image c n _ (k .0) (k .1) ∙ rw (eq-eqb f (c / 256) l) refl)
+  pub its-lengths : (l w : ℕ) → a ≡ Done → l ≡ w → told Done ≡ onLengths c n l w (gives tt)
+  its-lengths l w h d = let i = image-held h in sym (on-lengths c n l w (gives tt) (i .0) (i .1) d)
 
-module _ (c n f : ℕ) (a : StoreAnswer) (e : told a ≡ onStore c n f (gives tt)) where
-  pub store-refused : {A : Type 0} (rest : Answer A) (x : Refusal) → a ≡ Refused x → refuses (x .number) (x .fault) ≡ onStore c n f rest
-  unfolding onStore onImage
-  store-refused rest x w = refused-store rest (validCapacity c) (eqb n c) (eqb f (c / 256)) (x .number) (x .fault) (sym (ap told w) ∙ e)
+-- ---- after checked_store and checked_mask
 
-  pub store-held : a ≡ Done → Held c n f
-  unfolding onStore
-  store-held w =
-      let h = held-image c n (must (eqb f (c / 256)) badLength (gives tt)) tt (sym e ∙ ap told w) in
-      record { valid = h .0; whole = h .1; each = eqb-true f (c / 256) (passed (eqb f (c / 256)) badLength (gives tt) tt (h .2) .0) }
+module _ (c n l w : ℕ) (a : StoreAnswer) (e : told a ≡ onLengths c n l w (gives tt)) where
+  pub lengths-refused : {A : Type 0} (rest : Answer A) (x : Refusal) → a ≡ Refused x → refuses (x .number) (x .fault) ≡ onLengths c n l w rest
+  lengths-refused rest x h = refused-lengths c n l w tt rest (x .number) (x .fault) (sym (ap told h) ∙ e)
+
+  pub lengths-held : a ≡ Done → (validCapacity c ≡ true) × (n ≡ c) × (l ≡ w)
+  lengths-held h = let k = held-lengths c n l w (gives tt) tt (sym e ∙ ap told h) in (k .0, k .1, k .2)
+
+  -- what comes after the tests is the answer
+  pub lengths-passed : {A : Type 0} (rest : Answer A) → a ≡ Done → onLengths c n l w rest ≡ rest
+  lengths-passed rest h = let k = lengths-held h in on-lengths c n l w rest (k .0) (k .1) (k .2)
 
 -- ---- where bytes may be programmed and a sector erased
 

@@ -4,26 +4,26 @@ use mathlib.Core.Path.{_≡_, refl, sym, ap, ap₂, _∙_}
 use mathlib.Core.Bool.{Bool, true, false, cond}
 use mathlib.Core.List.{List, [], _∷_, _++_, append-assoc}
 use native.Mathlib.Omega.{arith}
-use borrow.Author.Tests.{eq-eqb, ne-eqb, eqb-true, leb-true, leb-false, ltb-true, ltb-false}
+use borrow.Author.Tests.{ne-eqb, leb-true, leb-false, ltb-true, ltb-false}
 use lib.Bits.{bitAnd, bitOr, or-zero-r}
 use lib.Dec.{eqb, leb, ltb}
-use lib.ListN.{length, getD, take, drop, replicate, length-replicate, length-drop}
+use lib.ListN.{length, getD, take, drop, length-replicate, length-drop}
 use lib.Seq.{length-take-le, getD-drop, getD-take, take-length}
 use Rattle.laws.specs.Refusals.{badLength}
-use Rattle.laws.specs.Answers.{Answer, gives, refuses, refusal, must}
+use Rattle.laws.specs.Answers.{Answer, gives, refuses, refusal}
 use Rattle.laws.specs.Bits.{bitClear}
 use Rattle.laws.proofs.Bits as Bits
 use Rattle.laws.proofs.Chain.{passed}
 use Rattle.laws.proofs.ReadBack.{read-back}
 use Rattle.layout.specs.Layout.{validCapacity}
-use Rattle.words.specs.Words.{Bytes, placed}
+use Rattle.words.specs.Words.{placed}
 use Rattle.words.proofs.Numbers.{placed-fits}
-use Rattle.store.specs.Store.{told, onImage, onMask, leaves, part, inOnePage, programmedByte, programmedBytes, programmed, mask, programStores, afterProgram, isSector, blankSector, erased, eraseStores, afterErase}
-use Rattle.store.specs.Laws.{EachByte, OnlyAt, ProgramOnlyIts, ProgramItsPart, PageOnBlank, PageOnItself, PageAgain, ProgramAgain, CallAgain, NoBitRises, SectorErased, EraseOnlyIts, FailedErase, AnswersTell}
+use Rattle.store.specs.Store.{told, leaves, part, inOnePage, programmedByte, programmedBytes, programmed, mask, programStores, afterProgram, isSector, blankSector, erased, eraseStores, afterErase}
+use Rattle.store.specs.Laws.{EachByte, OnlyAt, ProgramOnlyIts, ProgramItsPart, PageOnBlank, PageOnItself, PageAgain, ProgramAgain, CallAgain, NoBitRises, EraseOnlyIts, FailedErase, AnswersTell}
 use Rattle.store.specs.declared.StoreAnswer.{StoreAnswer}
 use Rattle.store.specs.declared.StoreAnswer.the-variants.{Done, Refused}
 use Rattle.store.proofs.Bytes.{length-programmed-bytes, programmed-byte}
-use Rattle.store.proofs.Checks.{on-image, held-image, one-page}
+use Rattle.store.proofs.Checks.{on-lengths, held-image, held-lengths, one-page}
 use Rattle.store.proofs.Replaced.{replaced, front-same, after-new, its-part, only-at, byte-new}
 
 -- ---- bytes by themselves
@@ -143,16 +143,15 @@ pub record Accepted (c : ℕ) (m : List ℕ) (a : ℕ) (t k : List ℕ) : Type 0
 
 module _ (c : ℕ) (m : List ℕ) (a : ℕ) (t k : List ℕ) (reply : ℕ) where
   pub program-stores : Accepted c m a t k → programStores c m a t k reply ≡ gives (programmed m a t (mask (eqb reply 0) k))
-  unfolding programStores onMask
-  program-stores h = on-image c (length m) _ (h .valid) (h .whole) ∙ rw (eq-eqb (length k) 256 (h .masked), h .in-page) refl
+  unfolding programStores
+  program-stores h = on-lengths c (length m) (length k) 256 _ (h .valid) (h .whole) (h .masked) ∙ rw (h .in-page) refl
 
   pub accepted : (x : List ℕ) → programStores c m a t k reply ≡ gives x → Accepted c m a t k × (x ≡ programmed m a t (mask (eqb reply 0) k))
-  unfolding programStores onMask
+  unfolding programStores
   accepted x e =
-      let i = held-image c (length m) _ x e in
-      let l = passed (eqb (length k) 256) badLength _ x (i .2) in
-      let p = passed (inOnePage c a (length t)) badLength _ x (l .1) in
-      (record { valid = i .0; whole = i .1; masked = eqb-true (length k) 256 (l .0); in-page = p .0 }, given _ x (p .1))
+      let i = held-lengths c (length m) (length k) 256 _ x e in
+      let p = passed (inOnePage c a (length t)) badLength _ x (i .3) in
+      (record { valid = i .0; whole = i .1; masked = i .2; in-page = p .0 }, given _ x (p .1))
     where
       given : (a b : List ℕ) → _≡_ {A = Answer (List ℕ)} (gives a) (gives b) → b ≡ a
       given a b h = cc

@@ -1,4 +1,5 @@
 pub mod Checks
+pub mod Reading
 pub mod Bytes
 pub mod Stores
 pub mod Replaced

@@ -1,10 +1,10 @@
 -- A list with other elements from an index on: which elements and which parts stay. Assumes nothing.
 use Prim.Native.Nat.{ℕ, _+_, _-_, _≤_, _<_}
-use mathlib.Core.Path.{_≡_, refl, sym, ap, ap₂, _∙_}
-use mathlib.Core.List.{List, [], _++_, append-assoc}
+use mathlib.Core.Path.{_≡_, refl, sym, ap, _∙_}
+use mathlib.Core.List.{List, _++_}
 use native.Mathlib.Omega.{arith}
 use lib.ListN.{length, getD, take, drop, length-append, length-drop, take-append-drop, List·getD-append}
-use lib.Seq.{length-take-le, take-at, drop-at, drop-append-le, drop-append-add, take-append-le, getD-append-add, getD-take, getD-drop, drop-drop, take-take}
+use lib.Seq.{length-take-le, take-at, drop-at, drop-append-le, take-append-le, getD-take, getD-drop, drop-drop}
 use Rattle.store.specs.Store.{part}
 use Rattle.store.specs.Laws.{OnlyAt}
 

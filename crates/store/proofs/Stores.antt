@@ -1,16 +1,15 @@
 -- The ways out of a read, a program and an erase: what each answers, and what it leaves in the lent bytes. Assumes nothing.
-use Prim.Native.Nat.{ℕ, _+_, _-_, _/_, _%_, _≤_, _<_}
+use Prim.Native.Nat.{ℕ, _+_, _-_, _/_, _≤_}
 use mathlib.Core.Path.{_≡_, refl, sym, ap, _∙_}
 use mathlib.Core.Bool.{Bool, true, false, cond, not}
-use mathlib.Core.List.{List, [], _++_, append-nil}
-use native.Mathlib.Nat.{zero-add}
+use mathlib.Core.List.{List, _++_, append-nil}
 use native.Mathlib.Omega.{arith}
 use borrow.Author.Tests.{eq-eqb, ne-eqb, not-true, not-false}
 use lib.Dec.{eqb}
 use lib.ListN.{length, take, drop, replicate, length-drop, drop-of-length-le}
-use lib.Seq.{length-take-le, take-length, paste}
+use lib.Seq.{length-take-le, take-length}
 use Rattle.laws.specs.Refusals.{device, badLength}
-use Rattle.laws.specs.Answers.{Answer, gives, refuses, refusal, must, then}
+use Rattle.laws.specs.Answers.{Answer, gives, refuses, refusal, then}
 use Rattle.laws.specs.declared.Refusal.{Refusal}
 use Rattle.words.specs.Words.{placed}
 use Rattle.words.proofs.Numbers.{placed-fits}
@@ -18,7 +17,7 @@ use Rattle.store.specs.Store.{told, onImage, onStore, onMask, done, leav
 use Rattle.store.specs.Store.{mask, programmed, programStores, programTold, afterProgram, isSector, blankSector, erased, eraseStores, eraseTold, afterErase}
 use Rattle.store.specs.declared.StoreAnswer.{StoreAnswer}
 use Rattle.store.specs.declared.StoreAnswer.the-variants.{Done, Refused}
-use Rattle.store.proofs.Checks.{on-image, on-store, image-refused, image-held, store-refused, store-held, one-page, sector}
+use Rattle.store.proofs.Checks.{on-image, image-refused, image-held, lengths-refused, lengths-held, lengths-passed, one-page}
 
 -- the end of a call: its answer is what the contract tells, and the lent bytes are what the contract leaves
 pub record Ends (a told : Answer (Unit {0})) (l after : List ℕ) : Type 0 where
@@ -76,26 +75,26 @@ filled out new h =
 module _ (c : ℕ) (m f : List ℕ) (a : ℕ) (out : List ℕ) (s : StoreAnswer) (e : told s ≡ onStore c (length m) (length f) (gives tt)) where
   pub read-untested : (x : Refusal) → s ≡ Refused x → Ends (told (Refused x)) (readTold c m f a out) out (afterRead c m f a out)
   unfolding bytesRead
-  read-untested x w = stays-read (bytesRead c m f a (length out)) out (x .number) (x .fault) (store-refused c (length m) (length f) s e _ x w)
+  read-untested x w = stays-read (bytesRead c m f a (length out)) out (x .number) (x .fault) (lengths-refused c (length m) (length f) (c / 256) s e _ x w)
 
   module _ (ok : s ≡ Done) (b : Bool) (p : b ≡ inOnePage c a (length out)) where
     pub read-crosses : (r : Refusal) → not b ≡ true → r ≡ refusal badLength 0 → Ends (told (Refused r)) (readTold c m f a out) out (afterRead c m f a out)
     unfolding bytesRead
     read-crosses r h w =
         refused-read (bytesRead c m f a (length out)) out r badLength 0 w
-        (sym (on-store c (length m) (length f) _ (store-held c (length m) (length f) s e ok) ∙ rw (← p, not-true b h) refl))
+        (sym (lengths-passed c (length m) (length f) (c / 256) s e _ ok ∙ rw (← p, not-true b h) refl))
 
     module _ (h : not b ≡ false) (x : ℕ) (q : x ≡ faultAt f a) where
       reads : bytesRead c m f a (length out) ≡ readOf f a (part a (length out) m)
       unfolding bytesRead
-      reads = on-store c (length m) (length f) _ (store-held c (length m) (length f) s e ok) ∙ rw (← p, not-false b h) refl
+      reads = lengths-passed c (length m) (length f) (c / 256) s e _ ok ∙ rw (← p, not-false b h) refl
 
       pub read-faulty : (r : Refusal) → (x ≡ 0 → ⊥) → r ≡ refusal device x → Ends (told (Refused r)) (readTold c m f a out) out (afterRead c m f a out)
       unfolding readOf
       read-faulty r n w = refused-read (bytesRead c m f a (length out)) out r device x w (sym (reads ∙ rw (← q, ne-eqb x 0 n) refl))
 
       pub part-there : a + length out ≤ length m
-      part-there = omega (arith, one-page c a (length out) (sym p ∙ not-false b h), store-held c (length m) (length f) s e ok .whole)
+      part-there = omega (arith, one-page c a (length out) (sym p ∙ not-false b h), lengths-held c (length m) (length f) (c / 256) s e ok .1)
 
       pub read-well : (new : List ℕ) → x ≡ 0 → new ≡ placed out 0 (take (a + length out - a) (drop a m))
           → Ends (told Done) (readTold c m f a out) new (afterRead c m f a out)
@@ -109,46 +108,34 @@ module _ (c : ℕ) (m f : List ℕ) (a : ℕ) (out : List ℕ) (s : StoreAnswer)
 
 -- ---- a program
 
-module _ (c : ℕ) (m : List ℕ) (a : ℕ) (t k : List ℕ) (reply : ℕ) (s : StoreAnswer) (e : told s ≡ onImage c (length m) (gives tt)) where
+module _ (c : ℕ) (m : List ℕ) (a : ℕ) (t k : List ℕ) (reply : ℕ) (s : StoreAnswer) (e : told s ≡ onMask c (length m) (length k) (gives tt)) where
   pub program-untested : (x : Refusal) → s ≡ Refused x → Ends (told (Refused x)) (programTold c m a t k reply) m (afterProgram c m a t k reply)
-  unfolding programStores onMask
-  program-untested x w = stays (programStores c m a t k reply) m reply (x .number) (x .fault) (image-refused c (length m) s e _ x w)
+  unfolding programStores
+  program-untested x w = stays (programStores c m a t k reply) m reply (x .number) (x .fault) (lengths-refused c (length m) (length k) 256 s e _ x w)
 
-  module _ (ok : s ≡ Done) where
-    pub program-unmasked : (r : Refusal) → (length k ≡ 256 → ⊥) → r ≡ refusal badLength 0
+  module _ (ok : s ≡ Done) (b : Bool) (p : b ≡ inOnePage c a (length t)) where
+    pub program-crosses : (r : Refusal) → not b ≡ true → r ≡ refusal badLength 0
         → Ends (told (Refused r)) (programTold c m a t k reply) m (afterProgram c m a t k reply)
-    unfolding programStores onMask
-    program-unmasked r n w =
-        let held = image-held c (length m) s e ok in
+    unfolding programStores
+    program-crosses r h w =
         refused (programStores c m a t k reply) m reply r badLength 0 w
-        (sym (on-image c (length m) _ (held .0) (held .1) ∙ rw (ne-eqb (length k) 256 n) refl))
+        (sym (lengths-passed c (length m) (length k) 256 s e _ ok ∙ rw (← p, not-true b h) refl))
 
-    module _ (l : length k ≡ 256) (b : Bool) (p : b ≡ inOnePage c a (length t)) where
-      pub program-crosses : (r : Refusal) → not b ≡ true → r ≡ refusal badLength 0
-          → Ends (told (Refused r)) (programTold c m a t k reply) m (afterProgram c m a t k reply)
-      unfolding programStores onMask
-      program-crosses r h w =
-          let held = image-held c (length m) s e ok in
-          refused (programStores c m a t k reply) m reply r badLength 0 w
-          (sym (on-image c (length m) _ (held .0) (held .1) ∙ rw (eq-eqb (length k) 256 l, ← p, not-true b h) refl))
+    module _ (h : not b ≡ false) where
+      pub target-fits : a + length t ≤ length m
+      target-fits = omega (arith, one-page c a (length t) (sym p ∙ not-false b h), lengths-held c (length m) (length k) 256 s e ok .1)
 
-      module _ (h : not b ≡ false) where
-        pub target-fits : a + length t ≤ length m
-        target-fits = omega (arith, one-page c a (length t) (sym p ∙ not-false b h), image-held c (length m) s e ok .1)
+      module _ (new : List ℕ) (w : new ≡ programmed m a t (mask (eqb reply 0) k)) where
+        stored : gives new ≡ programStores c m a t k reply
+        unfolding programStores
+        stored = sym (lengths-passed c (length m) (length k) 256 s e _ ok ∙ rw (← p, not-false b h, w) refl)
 
-        module _ (new : List ℕ) (w : new ≡ programmed m a t (mask (eqb reply 0) k)) where
-          stored : gives new ≡ programStores c m a t k reply
-          unfolding programStores onMask
-          stored =
-              let held = image-held c (length m) s e ok in
-              sym (on-image c (length m) _ (held .0) (held .1) ∙ rw (eq-eqb (length k) 256 l, ← p, not-false b h, w) refl)
+        pub program-fails : (r : Refusal) → (reply ≡ 0 → ⊥) → r ≡ refusal device reply
+            → Ends (told (Refused r)) (programTold c m a t k reply) new (afterProgram c m a t k reply)
+        program-fails r n v = failed (programStores c m a t k reply) m new reply r stored n v
 
-          pub program-fails : (r : Refusal) → (reply ≡ 0 → ⊥) → r ≡ refusal device reply
-              → Ends (told (Refused r)) (programTold c m a t k reply) new (afterProgram c m a t k reply)
-          program-fails r n v = failed (programStores c m a t k reply) m new reply r stored n v
-
-          pub program-succeeds : reply ≡ 0 → Ends (told Done) (programTold c m a t k reply) new (afterProgram c m a t k reply)
-          program-succeeds n = succeeded (programStores c m a t k reply) m new reply stored n
+        pub program-succeeds : reply ≡ 0 → Ends (told Done) (programTold c m a t k reply) new (afterProgram c m a t k reply)
+        program-succeeds n = succeeded (programStores c m a t k reply) m new reply stored n
 
 -- ---- an erase
 

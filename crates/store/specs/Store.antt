@@ -2,8 +2,7 @@
 -- well. Each page is handed on as the 256 bytes from its address. Programming a byte gives old AND (target OR keep); keep
 -- is 0 if it succeeds, and a lent 256-byte keep mask, from its start, if it doesn't. An erase gives 0xff."
 use Prim.Native.Nat.{ℕ, _+_, _/_, _%_}
-use mathlib.Core.Path.{_≡_}
-use mathlib.Core.Bool.{Bool, true, false, cond}
+use mathlib.Core.Bool.{Bool, false, cond}
 use mathlib.Core.List.{List, [], _∷_, _++_}
 use lib.Bits.{bitAnd, bitOr}
 use lib.Dec.{eqb, leb, ltb}
@@ -26,19 +25,17 @@ told (Refused r) = refuses (r .number) (r .fault)
 unfoldable pub onImage : {A : Type 0} → ℕ → ℕ → Answer A → Answer A
 onImage capacity imageLength rest = must (validCapacity capacity) invalidLayout (must (eqb imageLength capacity) badLength rest)
 
+-- then one more length that is lent with it
+unfoldable pub onLengths : {A : Type 0} → ℕ → ℕ → ℕ → ℕ → Answer A → Answer A
+onLengths capacity imageLength other wanted rest = onImage capacity imageLength (must (eqb other wanted) badLength rest)
+
 -- "fault bytes not one per 256"
-unfoldable pub onStore : {A : Type 0} → ℕ → ℕ → ℕ → Answer A → Answer A
-onStore capacity imageLength faultsLength rest = onImage capacity imageLength (must (eqb faultsLength (capacity / 256)) badLength rest)
+abbrev pub onStore : {A : Type 0} → ℕ → ℕ → ℕ → Answer A → Answer A
+onStore capacity imageLength faultsLength rest = onLengths capacity imageLength faultsLength (capacity / 256) rest
 
 -- "a page or keep mask not 256 bytes"
-unfoldable pub onMask : {A : Type 0} → ℕ → ℕ → ℕ → Answer A → Answer A
-onMask capacity imageLength keepLength rest = onImage capacity imageLength (must (eqb keepLength 256) badLength rest)
-
--- what those tests show: an image of its capacity, a fault byte for each 256 bytes
-pub record Held (capacity imageLength faultsLength : ℕ) : Type 0 where
-  pub valid : validCapacity capacity ≡ true
-  pub whole : imageLength ≡ capacity
-  pub each : faultsLength ≡ capacity / 256
+abbrev pub onMask : {A : Type 0} → ℕ → ℕ → ℕ → Answer A → Answer A
+onMask capacity imageLength keepLength rest = onLengths capacity imageLength keepLength 256 rest
 
 -- a call whose value is left in lent bytes: whether it was refused
 abbrev pub done : {A : Type 0} → Answer A → Answer (Unit {0})

@@ -6,7 +6,7 @@ ghost use mathlib.Core.Path.{_≡_};
 ghost use Prim.Native.Nat.{_+_, _≤_};
 ghost use lib.ListN.{length, getD};
 ghost use Rattle.laws.specs.Answers.{gives};
-ghost use Rattle.store.specs.Store.{told, onImage, onStore, faultAt, inOnePage, isSector, mask, programmed};
+ghost use Rattle.store.specs.Store.{told, onImage, onStore, onMask, faultAt, inOnePage, isSector, mask, programmed};
 ghost use Rattle.store.specs.Store.{readTold, afterRead, programTold, afterProgram, eraseTold, afterErase};
 
 pub const PAGE_LEN: usize = 256;
@@ -40,6 +40,21 @@ pub fn checked_store(capacity_bytes: u32, image_len: usize, faults_len: usize) -
         StoreAnswer::Refused(refusal) => StoreAnswer::Refused(refusal),
         StoreAnswer::Done => {
             if faults_len != (capacity_bytes as usize) / PAGE_LEN {
+                return StoreAnswer::Refused(laws::refused(laws::BAD_LENGTH));
+            }
+            StoreAnswer::Done
+        }
+    }
+}
+
+// The same with a keep mask of 256 bytes.
+pub fn checked_mask(capacity_bytes: u32, image_len: usize, keep_len: usize) -> StoreAnswer
+    ensures { λ r. ⌜ told r ≡ onMask «capacity_bytes» «image_len» «keep_len» (gives tt) ⌝ }
+{
+    match checked_image(capacity_bytes, image_len) {
+        StoreAnswer::Refused(refusal) => StoreAnswer::Refused(refusal),
+        StoreAnswer::Done => {
+            if keep_len != PAGE_LEN {
                 return StoreAnswer::Refused(laws::refused(laws::BAD_LENGTH));
             }
             StoreAnswer::Done
@@ -145,12 +160,9 @@ pub fn page_program(
     ensures { λ r. ⌜ told r ≡ programTold «capacity_bytes» (now (image .entry)) address (now (target .entry)) (now (keep .entry)) reply ⌝ }
     ensures { λ _. ⌜ now (image .exit) ≡ afterProgram «capacity_bytes» (now (image .entry)) address (now (target .entry)) (now (keep .entry)) reply ⌝ }
 {
-    match checked_image(capacity_bytes, image.len()) {
+    match checked_mask(capacity_bytes, image.len(), keep.len()) {
         StoreAnswer::Refused(refusal) => StoreAnswer::Refused(refusal),
         StoreAnswer::Done => {
-            if keep.len() != PAGE_LEN {
-                return StoreAnswer::Refused(laws::refused(laws::BAD_LENGTH));
-            }
             if !in_one_page(capacity_bytes, address, target.len()) {
                 return StoreAnswer::Refused(laws::refused(laws::BAD_LENGTH));
             }

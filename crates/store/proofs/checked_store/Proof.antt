@@ -1,5 +1,5 @@
 -- `store::checked_store` meets its contract. Assumes nothing.
-use Rattle.store.proofs.Checks.{faults-refused, other-faults, its-faults}
+use Rattle.store.proofs.Checks.{no-image, other-lengths, its-lengths}
 use borrow.Author.Needs.{needs}
 use Rattle.store.proofs.checked_store.Statement.{statement}
 use Rattle.store.proofs.checked_store.Tie as tie
@@ -17,13 +17,13 @@ refused-requires : tie.Need-refused-requires
 refused-requires c κs = search needs
 
 returns : tie.Need-returns
-returns c = search (other-faults, needs)
+returns c = search (other-lengths, needs)
 
 returns-2 : tie.Need-returns-2
-returns-2 c = search (faults-refused, needs)
+returns-2 c = search (no-image, needs)
 
 returns-3 : tie.Need-returns-3
-returns-3 c = search (its-faults, needs)
+returns-3 c = search (its-lengths, needs)
 
 pub checked-store-spec : {M : Type 1} → statement M
 checked-store-spec =

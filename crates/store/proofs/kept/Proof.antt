@@ -1,5 +1,4 @@
 -- `store::kept` meets its contract. Assumes nothing.
-use mathlib.Core.Path.{_∙_}
 use borrow.Author.Needs.{needs}
 use Rattle.store.proofs.kept.Statement.{statement}
 use Rattle.store.proofs.kept.Tie as tie

@@ -1,5 +1,5 @@
 -- `store::program_bytes` meets its contract. The loop's invariant: the first i bytes are programmed. Assumes nothing.
-use Prim.Native.Nat.{_+_, _-_, _≤_}
+use Prim.Native.Nat.{_-_, _≤_}
 use mathlib.Core.Path.{_≡_, refl, ap, _∙_}
 use lib.ListN.{length, length-set}
 use Rattle.store.specs.Store.{mask}

@@ -1,0 +1,38 @@
+-- `store::checked_mask` meets its contract. Assumes nothing.
+use Rattle.store.proofs.Checks.{no-image, other-lengths, its-lengths}
+use borrow.Author.Needs.{needs}
+use Rattle.store.proofs.checked_mask.Statement.{statement}
+use Rattle.store.proofs.checked_mask.Tie as tie
+
+checked-image-requires : tie.Need-checked-image-requires
+checked-image-requires c κs = search needs
+
+enum-known-refusal : tie.Need-enum-known-refusal
+enum-known-refusal c = search needs
+
+enum-told : tie.Need-enum-told
+enum-told c = search needs
+
+refused-requires : tie.Need-refused-requires
+refused-requires c κs = search needs
+
+returns : tie.Need-returns
+returns c = search (other-lengths, needs)
+
+returns-2 : tie.Need-returns-2
+returns-2 c = search (no-image, needs)
+
+returns-3 : tie.Need-returns-3
+returns-3 c = search (its-lengths, needs)
+
+pub checked-mask-spec : {M : Type 1} → statement M
+checked-mask-spec =
+    tie.close
+    (tie.spec
+    checked-image-requires
+    enum-known-refusal
+    enum-told
+    refused-requires
+    returns
+    returns-2
+    returns-3)
