@@ -1,0 +1,304 @@
+-- Each event of a life keeps the invariant: a program that succeeds, one that doesn't finish, a record that the assembler takes, the end of a
+-- flight, and power-on. Assumes nothing.
+use Prim.Native.Nat.{ℕ, suc, _<_}
+use mathlib.Core.Path.{_≡_, refl, sym, ap, _∙_}
+use mathlib.Core.Bool.{Bool, true, false, cond, false≢true}
+use mathlib.Core.Option.{some}
+use mathlib.Core.Logic.{inl, inr}
+use mathlib.Core.List.{List, [], _∷_, _++_, append-assoc, append-nil}
+use native.Mathlib.Omega.{arith}
+use lib.Dec.{ltb}
+use lib.ListN.{length, length-set}
+use Rattle.power.specs.Pages.{PageStore, inFlight}
+use Rattle.power.specs.Reading.{Blanks}
+use Rattle.power.specs.Grammar.{Ending, unused, ended, frayed, foreign, newest, Sound, LooseRule, Follows}
+use Rattle.power.specs.Claims.{power-on, OnlyAdds}
+use Rattle.power.specs.Scan.{scan}
+use Rattle.power.specs.Calls.{programmedCell, programmedAt}
+use Rattle.power.specs.Life.{Undecoded}
+use Rattle.power.proofs.Used.{length-snoc, unused-none, follows-map}
+use Rattle.power.proofs.Scan.{verdictOf, scan-is}
+use Rattle.power.proofs.Invariant.{Ground, Phase, off, idle, filling, holding, Tail, tail-of-blanks, Filling, Holding, Begun, Stands}
+use Rattle.power.proofs.Invariant.{Inv, base-long, turned, passed, heldContent, held-whole, held-strict, next-sound, further-newest}
+use Rattle.power.proofs.Adds.{cell-there, cell-is, program-at, program-adds}
+
+pub in-flight-append : {Record : Type 0} (f : ℕ) (xs ys : List Record) → inFlight f (xs ++ ys) ≡ inFlight f xs ++ inFlight f ys
+in-flight-append f [] ys = refl
+in-flight-append {Record} f (x ∷ xs) ys = ap {B = List (ℕ × Record)} (λ l. (f, x) ∷ l) (in-flight-append f xs ys)
+
+snoc-some : {A : Type 0} (xs : List A) (x : A) → ¬ (xs ++ x ∷ [] ≡ [])
+snoc-some xs x e = omega (arith, length-snoc xs x, ap length e)
+
+cons-some : {A : Type 0} (x : A) (xs : List A) → ¬ (x ∷ xs ≡ [])
+cons-some x xs e = omega (arith, ap length e)
+
+module _ {Page Record Mask : Type 0} (S : PageStore Page Record Mask) where
+  -- after a page was written: the flight goes on, or it has ended
+  abbrev pub wrote : Bool → ℕ → ℕ → S .Edition → Phase S
+  wrote true f sq e = filling f sq e []
+  wrote false f sq e = idle
+
+  -- after a record was pushed
+  abbrev pub pushedPhase : ℕ → ℕ → S .Edition → List Record → Phase S
+  pushedPhase f s e rows = cond (S .full rows) (holding f (S .sequenceAfter s) e true (S .encode f s rows)) (filling f s e rows)
+
+  -- after a flight ended that had these rows
+  abbrev pub stoppedPhase : ℕ → ℕ → S .Edition → List Record → Phase S
+  stoppedPhase f s e [] = idle
+  stoppedPhase f s e (r ∷ rows) = holding f (S .sequenceAfter s) e false (S .encode f s (r ∷ rows))
+
+  -- after power-on
+  abbrev pub woken : Bool → Phase S
+  woken true = idle
+  woken false = off
+
+  -- the same page waits, over another cell or with the flight ended
+  reheld : {f sq : ℕ} {e : S .Edition} {r r′ : Bool} {page : Page} {st : Ending Record} {base more more′ : List Page} {nx nf : ℕ} {mem : List (ℕ × Record)}
+      (h : Holding S f sq e r page st base more nx nf mem) → Tail S page more′ → (r′ ≡ true → S .full (h .rows) ≡ true)
+      → Holding S f sq e r′ page st base more′ nx nf mem
+  reheld h tail filled =
+      record {
+        tail = tail;
+        here = h .here;
+        number = h .number;
+        rows = h .rows;
+        encoded = h .encoded;
+        place = h .place;
+        next-flight = h .next-flight;
+        next-sequence = h .next-sequence;
+        packs = h .packs;
+        some-rows = h .some-rows;
+        filled = filled;
+        memory = h .memory;
+        small = h .small;
+        few = h .few;
+      }
+
+module _ {Page Record Mask : Type 0} (S : PageStore Page Record Mask) (G : Ground S) where
+  -- a page that waits is programmed
+  module _ {l : List Page} {f sq : ℕ} {e : S .Edition} {recording : Bool} {page : Page} {nx nf : ℕ} {past : List (List (ℕ × Record))} {now : List (ℕ × Record)}
+      (i : Inv S G l (holding f sq e recording page) nx nf past now) (inside : nx < length l) where
+    there-cell : (cell : Page) × (rest : List Page) × (i .more ≡ cell ∷ rest)
+    there-cell = cell-there S (i .base) (i .more) nx (i .stands .here) (rw (← i .split) inside)
+
+    abbrev cell : Page
+    cell = there-cell .0
+
+    abbrev rest : List Page
+    rest = there-cell .1
+
+    log-is : l ≡ i .base ++ cell ∷ rest
+    log-is = i .split ∙ ap (λ (m : List Page). i .base ++ m) (there-cell .2)
+
+    tail-is : Tail S page (cell ∷ rest)
+    tail-is = rw (there-cell .2) at (i .stands .tail)
+
+    -- with success
+    wrote-stands : (r : Bool) → (r ≡ true → S .full (i .stands .rows) ≡ true)
+        → Stands S (wrote S r f sq e) (ended (heldContent S G i)) (i .base ++ page ∷ []) rest (suc nx) nf []
+    wrote-stands true g = (
+      record {
+        blanks = tail-is .2;
+        here = omega (arith, i .stands .here, length-snoc (i .base) page);
+        place = inr (refl, i .stands .next-sequence, g refl, i .stands .packs);
+        next-flight = i .stands .next-flight;
+        packs = S .packs-none e;
+        unfilled = S .full-none;
+        memory = refl;
+        small = i .stands .small;
+        few = omega (arith, i .stands .next-sequence, i .stands .few, length-snoc (i .base) page);
+      },
+      inl (refl, i .stands .next-sequence, g refl, i .stands .packs),
+    )
+    wrote-stands false g =
+        record {
+          blanks = tail-is .2;
+          here = omega (arith, i .stands .here, length-snoc (i .base) page);
+          sound = tt;
+          next-flight = i .stands .next-flight;
+          memory = refl;
+        }
+
+    pub keep-written : Inv S G (programmedAt S l nx page (S .clean)) (wrote S recording f sq e) (suc nx) nf past now
+    keep-written =
+        passed S G i (heldContent S G i) rest
+        (program-at S l (i .base) rest cell page nx (S .clean) log-is (i .stands .here) ∙ ap (λ (p : Page). i .base ++ p ∷ rest) (tail-is .0))
+        (length-set l nx (programmedCell S l nx page (S .clean))) (held-strict S G i) (held-whole S G i) (i .stands .small) (i .stands .memory)
+        (wrote-stands recording (i .stands .filled))
+
+    -- or not to its end: the page stays waiting
+    pub keep-failed : (keep : Mask) → Undecoded S (some (page, programmedCell S l nx page keep))
+        → Inv S G (programmedAt S l nx page keep) (holding f sq e recording page) nx nf past now
+    keep-failed keep un =
+        record {
+          base = i .base;
+          more = S .programmed cell page keep ∷ rest;
+          ending = i .ending;
+          old = i .old;
+          kept = i .kept;
+          mem = i .mem;
+          follows = i .follows;
+          split = program-at S l (i .base) rest cell page nx keep log-is (i .stands .here);
+          before = i .before;
+          on-flash = i .on-flash;
+          logged = i .logged;
+          risen = i .risen;
+          newest-small = i .newest-small;
+          long = length-set l nx (programmedCell S l nx page keep) ∙ i .long;
+          bound = i .bound;
+          stands = reheld S (i .stands) (S .program-again cell page keep ∙ tail-is .0, unread un, tail-is .2) (i .stands .filled);
+        }
+      where
+        here : programmedCell S l nx page keep ≡ S .programmed cell page keep
+        here = ap (λ (c : Page). S .programmed c page keep) (cell-is S l (i .base) rest cell page nx keep log-is (i .stands .here))
+
+        unread : Undecoded S (some (page, programmedCell S l nx page keep)) → Undecoded S (some (page, S .programmed cell page keep))
+        unread (inl d) = inl (ap (S .decode) (sym here) ∙ d)
+        unread (inr d) = inr (sym here ∙ d)
+
+    pub keep-adds : (keep : Mask) → OnlyAdds S l (programmedAt S l nx page keep)
+    keep-adds keep = program-adds S l (i .base) rest cell page nx keep log-is (i .stands .here) tail-is
+
+  -- a record goes into flight f
+  module _ {l : List Page} {ph : Phase S} {nx₀ nf₀ nx nf : ℕ} {past : List (List (ℕ × Record))} {now : List (ℕ × Record)} (i : Inv S G l ph nx₀ nf₀ past now)
+      (f s : ℕ) (e : S .Edition) (rows : List Record) (w : Filling S f s e rows (i .ending) (i .base) (i .more) nx nf (i .mem)) where
+    sequence-small : s < S .limit
+    sequence-small = omega (arith, w .few, base-long S G i)
+
+    -- rows become a page that waits
+    page-made : (r : Bool) (xs : List Record) (mem : List (ℕ × Record)) → S .Packs e xs → ¬ (xs ≡ []) → (r ≡ true → S .full xs ≡ true) → mem ≡ inFlight f xs
+        → Holding S f (S .sequenceAfter s) e r (S .encode f s xs) (i .ending) (i .base) (i .more) nx nf mem
+    page-made r xs mem packs some-rows filled memory =
+        record {
+          tail = tail-of-blanks S (S .encode f s xs) (i .more) (S .program-blank e f s xs (w .small) sequence-small packs) (w .blanks);
+          here = w .here;
+          number = s;
+          rows = xs;
+          encoded = refl;
+          place = w .place;
+          next-flight = w .next-flight;
+          next-sequence = S .sequence-after s sequence-small;
+          packs = packs;
+          some-rows = some-rows;
+          filled = filled;
+          memory = memory;
+          small = w .small;
+          few = w .few;
+        }
+
+    pub keep-push : (r : Record) → S .Fits r → S .joins e r ≡ true → Inv S G l (pushedPhase S f s e (rows ++ r ∷ [])) nx nf past (now ++ (f, r) ∷ [])
+    keep-push r fits joins = step (S .full (rows ++ r ∷ [])) refl
+      where
+        packs : S .Packs e (rows ++ r ∷ [])
+        packs = S .packs-more e rows r (w .packs) (w .unfilled) fits joins
+
+        said : now ++ (f, r) ∷ [] ≡ i .kept ++ inFlight f (rows ++ r ∷ [])
+        said = rw (i .logged, w .memory, in-flight-append f rows (r ∷ [])) (append-assoc (i .kept) (inFlight f rows) ((f, r) ∷ []))
+
+        step : (q : Bool) → S .full (rows ++ r ∷ []) ≡ q → Inv S G l (pushedPhase S f s e (rows ++ r ∷ [])) nx nf past (now ++ (f, r) ∷ [])
+        step false q =
+            rw q
+            (turned S G i (inFlight f (rows ++ r ∷ [])) said (
+              record {
+                blanks = w .blanks;
+                here = w .here;
+                place = w .place;
+                next-flight = w .next-flight;
+                packs = packs;
+                unfilled = q;
+                memory = refl;
+                small = w .small;
+                few = w .few;
+              },
+              inr (snoc-some rows r),
+            ))
+        step true q =
+            rw q
+            (turned S G i (inFlight f (rows ++ r ∷ [])) said
+            (page-made true (rows ++ r ∷ []) (inFlight f (rows ++ r ∷ [])) packs (snoc-some rows r) (λ z. q) refl))
+
+    -- the flight ends
+    pub keep-stop : Begun S f s e rows (i .ending) → Inv S G l (stoppedPhase S f s e rows) nx nf past now
+    keep-stop b = go rows refl b
+      where
+        go : (xs : List Record) → rows ≡ xs → Begun S f s e xs (i .ending) → Inv S G l (stoppedPhase S f s e xs) nx nf past now
+        go [] q (inl a) =
+            turned S G i [] (i .logged ∙ rw (w .memory, q) refl)
+            (record {
+              blanks = w .blanks;
+              here = w .here;
+              sound = next-sound S (i .ending) e f s (inr a);
+              next-flight = w .next-flight ∙ ap suc (further-newest S (i .ending) e f s a);
+              memory = refl;
+            })
+        go [] q (inr a) = absurd (a refl)
+        go (r ∷ xs) q b =
+            turned S G i (i .mem) (i .logged)
+            (page-made false (r ∷ xs) (i .mem) (rw q at (w .packs)) (cons-some r xs) (λ z. absurd (false≢true z)) (w .memory ∙ rw q refl))
+
+  -- a flight begins
+  pub start-filling : {l : List Page} {nx nf : ℕ} {past : List (List (ℕ × Record))} {now : List (ℕ × Record)} (i : Inv S G l idle nx nf past now)
+      (e : S .Edition)
+      → nf < S .limit
+      → Filling S nf 0 e [] (i .ending) (i .base) (i .more) nx (S .flightAfter nf) (i .mem)
+  start-filling {l} {nx} {nf} i e small =
+      record {
+        blanks = i .stands .blanks;
+        here = i .stands .here;
+        place = inl (i .stands .sound, i .stands .next-flight, refl);
+        next-flight = S .flight-after nf small;
+        packs = S .packs-none e;
+        unfilled = S .full-none;
+        memory = i .stands .memory;
+        small = small;
+        few = omega arith;
+      }
+
+  -- the flight's recording ends while a page of it waits
+  pub keep-stop-held : {l : List Page} {f sq : ℕ} {e : S .Edition} {recording : Bool} {page : Page} {nx nf : ℕ} {past : List (List (ℕ × Record))}
+      {now : List (ℕ × Record)}
+      → Inv S G l (holding f sq e recording page) nx nf past now → Inv S G l (holding f sq e false page) nx nf past now
+  keep-stop-held i = turned S G i (i .mem) (i .logged) (reheld S (i .stands) (i .stands .tail) (λ z. absurd (false≢true z)))
+
+  -- power comes on
+  woken-stands : (f k : ℕ) (q : Bool) (st : Ending Record) (base more : List Page) → k ≡ length base → f < S .limit → Sound st → newest st ≡ f
+      → Blanks S more → Stands S (woken S q) st base more k (S .flightAfter f) []
+  woken-stands f k true st base more e h a n b = record { blanks = b; here = e; sound = a; next-flight = S .flight-after f h ∙ ap suc (sym n); memory = refl }
+  woken-stands f k false st base more e h a n b = (b, S .short-none)
+
+  verdict-stands : (st : Ending Record) (base more : List Page) (count : ℕ) → Follows S (LooseRule S) base st → Blanks S more → newest st < S .limit
+      → Stands S (woken S ((verdictOf S st (length base) count) .writable)) st base more ((verdictOf S st (length base) count) .page)
+      ((verdictOf S st (length base) count) .flight) []
+  verdict-stands unused base more count u b h =
+      record { blanks = b; here = sym (unused-none S u (length base) refl); sound = tt; next-flight = refl; memory = refl }
+  verdict-stands (ended c) base more count u b h = woken-stands (c .flight) (length base) (ltb (length base) count) (ended c) base more refl h tt refl b
+  verdict-stands (frayed c) base more count u b h = woken-stands (c .flight) (length base) (ltb (length base) count) (frayed c) base more refl h tt refl b
+  verdict-stands foreign base more count u b h = (b, S .short-none)
+
+  pub keep-power-on : {l : List Page} {nx nf : ℕ} {past : List (List (ℕ × Record))} {now : List (ℕ × Record)} → Inv S G l off nx nf past now
+      → Inv S G l (woken S ((scan S l) .writable)) ((scan S l) .page) ((scan S l) .flight) (past ++ now ∷ []) []
+  keep-power-on {l} i =
+      record {
+        base = i .base;
+        more = i .more;
+        ending = i .ending;
+        old = i .old ++ i .kept;
+        kept = [];
+        mem = [];
+        follows = i .follows;
+        split = i .split;
+        before = rw (i .logged) (power-on (i .kept) (i .mem) (i .before) (i .stands .1));
+        on-flash = i .on-flash ∙ sym (append-nil (i .old ++ i .kept));
+        logged = refl;
+        risen = i .risen;
+        newest-small = i .newest-small;
+        long = i .long;
+        bound = i .bound;
+        stands = rw said (verdict-stands (i .ending) (i .base) (i .more) (length l) loosely (i .stands .0) (i .newest-small));
+      }
+    where
+      loosely : Follows S (LooseRule S) (i .base) (i .ending)
+      loosely = follows-map S (G .loose) (i .follows)
+
+      said : scan S l ≡ verdictOf S (i .ending) (length (i .base)) (length l)
+      said = rw (i .split) (scan-is S loosely (i .more) (i .stands .0))

@@ -1,0 +1,14 @@
+pub mod Used
+pub mod Scan
+pub mod Search
+pub mod Invariant
+pub mod Adds
+pub mod Events
+pub mod Puts
+pub mod Passes
+pub mod Turns
+pub mod Theorem
+pub mod Moments
+pub mod Counted
+pub mod Logged
+pub mod Instance

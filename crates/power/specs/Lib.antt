@@ -1,0 +1,13 @@
+pub mod Pages
+pub mod Reading
+pub mod Grammar
+pub mod Claims
+pub mod Scan
+pub mod Writer
+pub mod Calls
+pub mod Life
+pub mod Theorem
+pub mod Moments
+pub mod Reports
+pub mod Small
+pub mod Examples

@@ -1,0 +1,81 @@
+-- The laws of the calls that demand 3 leans on: what pages_written counts, and that exactly the records are logged that should be. Without the
+-- second a drain that loses records on their way to the assembler would still meet demand 3.
+-- From document 01, "What a reader may conclude from a contract" and "Writer and store".
+use Prim.Native.Nat.{ℕ, _+_}
+use mathlib.Core.Path.{_≡_}
+use mathlib.Core.Bool.{Bool, true, false, cond}
+use mathlib.Core.List.{List, [], _∷_, _++_}
+use Rattle.power.specs.Pages.{PageStore}
+use Rattle.power.specs.Writer.{Writer}
+use Rattle.power.specs.Calls.{Next, Pass, logs, drain, writePending}
+use Rattle.power.specs.Life.{Device, Call, begin, lives, unpowered}
+
+module _ {Page Record Mask : Type 0} (S : PageStore Page Record Mask) where
+  -- "a made-up pages_written, which must equal the rise of next_page or, in a cut, the programs that succeeded"
+  pub record PagesCounted (succeed : ℕ) (before after : Pass S) : Type 0 where
+    pub alive : after .powerGone ≡ false → after .writer .nextPage ≡ before .writer .nextPage + after .pagesWritten
+    pub cut : after .powerGone ≡ true → after .pagesWritten ≡ succeed
+
+  -- so it is in drain
+  abbrev pub DrainCounts : Type 0
+  DrainCounts =
+      (d : Device S) (limit : ℕ) (whileDisarmed armed : Bool) (succeed : ℕ) (next : Next Mask)
+      → PagesCounted succeed (begin S d succeed next) (drain S limit whileDisarmed armed (begin S d succeed next))
+
+  -- and in write_pending
+  abbrev pub WriteCounts : Type 0
+  WriteCounts = (d : Device S) (succeed : ℕ) (next : Next Mask) → PagesCounted succeed (begin S d succeed next) (writePending S (begin S d succeed next))
+
+  -- the records of what was logged, without their flights
+  abbrev pub recordsIn : List (ℕ × Record) → List Record
+  recordsIn [] = []
+  recordsIn (entry ∷ logged) = entry .1 ∷ recordsIn logged
+
+  -- the records that are to be logged: all of them, or the armed ones
+  abbrev pub loggedOnes : Bool → List Record → List Record
+  loggedOnes whileDisarmed [] = []
+  loggedOnes whileDisarmed (r ∷ records) = cond (logs S whileDisarmed r) (r ∷ loggedOnes whileDisarmed records) (loggedOnes whileDisarmed records)
+
+  -- "boot-session flag (bit 2) on the first logged record of the power-on"
+  abbrev pub markFirst : Bool → List Record → List Record
+  markFirst due [] = []
+  markFirst due (r ∷ records) = cond due (S .marked r) r ∷ records
+
+  -- between calls no mark is pending, and none is due while a flight is recorded
+  pub record MarksSettled (w : Writer S) : Type 0 where
+    pub pending : w .assembler .markPending ≡ false
+    pub due : w .assembler .recording ≡ true → w .markDue ≡ false
+
+  -- some records left the queue, from its front, and what was logged is exactly the logged ones among them, in order; a cut empties the queue
+  pub record LoggedExactly (whileDisarmed : Bool) (before after : Pass S) : Type 0 where
+    pub left : List Record
+    pub rest : List Record
+    pub queue : before .queue ≡ left ++ rest
+    pub alive : after .powerGone ≡ false → after .queue ≡ rest
+    pub cut : after .powerGone ≡ true → after .queue ≡ []
+    pub logged : recordsIn (after .logged) ≡ recordsIn (before .logged) ++ markFirst (before .writer .markDue) (loggedOnes whileDisarmed left)
+
+  -- every record may join every flight, as in version 1 of the page
+  abbrev pub AllJoin : Type 0
+  AllJoin = (e : S .Edition) (r : Record) → S .joins e r ≡ true
+
+  -- so it is in drain on a writable log
+  abbrev pub DrainLogs : Type 0
+  DrainLogs =
+      AllJoin → (d : Device S) (limit : ℕ) (whileDisarmed armed : Bool) (succeed : ℕ) (next : Next Mask) → d .writer .writable ≡ true
+      → MarksSettled (d .writer)
+      → LoggedExactly whileDisarmed (begin S d succeed next) (drain S limit whileDisarmed armed (begin S d succeed next))
+
+  -- on a log that isn't writable drain logs nothing
+  abbrev pub UnwritableLogsNothing : Type 0
+  UnwritableLogsNothing =
+      (d : Device S) (limit : ℕ) (whileDisarmed armed : Bool) (succeed : ℕ) (next : Next Mask) → d .writer .writable ≡ false
+      → drain S limit whileDisarmed armed (begin S d succeed next) .logged ≡ []
+
+  -- and write_pending never logs anything
+  abbrev pub WriteLogsNothing : Type 0
+  WriteLogsNothing = (d : Device S) (succeed : ℕ) (next : Next Mask) → writePending S (begin S d succeed next) .logged ≡ []
+
+  -- every writer of a life has its marks settled
+  abbrev pub MarksInLives : Type 0
+  MarksInLives = (log : List Page) (life : List (Call S)) → MarksSettled (lives S life (unpowered S log) .writer)
