@@ -5,7 +5,7 @@ use mathlib.Core.Path.{_≡_, refl, sym, ap, ap₂, _∙_}
 use mathlib.Core.Bool.{Bool, true, false, cond}
 use native.Mathlib.Omega.{arith}
 use native.Mathlib.Nat.{mod-eq-of-lt, zero-mul}
-use borrow.Author.Tests.{eq-eqb, ne-eqb, eqb-true}
+use borrow.Author.Tests.{eq-eqb, ne-eqb, eqb-true, eqb-false}
 use lib.Dec.{eqb}
 use lib.Bits.{bitAnd, bitOr, and-step, or-step, and-comm, and-mask, and-zero-l, and-zero-r, and-shr, or-shr, and-high}
 use lib.Pow.{pow-pos, pow-add}
@@ -73,7 +73,7 @@ mask-clear k b = ap (λ (n : ℕ). eqb n 0) one ∙ test (bit k b) (bit-lt k b)
       where
         go : (q : Bool) → eqb n 0 ≡ q → eqb (n * 2 ^ k) 0 ≡ eqb n 0
         go true e = let z = eqb-true n 0 e in eq-eqb (n * 2 ^ k) 0 (rw z (zero-mul (2 ^ k))) ∙ sym e
-        go false e = ne-eqb (n * 2 ^ k) 0 (λ z. let y = shifted k n h z in let w = eq-eqb n 0 y in absurd (let x : _≡_ {A = ℕ} 0 1 = cc in omega arith)) ∙ sym e
+        go false e = ne-eqb (n * 2 ^ k) 0 (λ z. eqb-false n 0 e (shifted k n h z)) ∙ sym e
 
 -- ---- one bit cleared
 
@@ -148,8 +148,10 @@ program-again t = halves (λ t. (c k : ℕ) → bitAnd (bitAnd c (bitOr t k)) t 
     step : (a : ℕ) → ((c k : ℕ) → bitAnd (bitAnd c (bitOr (a / 2) k)) (a / 2) ≡ bitAnd c (a / 2))
         → (c k : ℕ) → bitAnd (bitAnd c (bitOr a k)) a ≡ bitAnd c a
     step a ih c k =
-        let inner = and-of c (c / 2) (c % 2) (bitOr a k) (bitOr (a / 2) (k / 2)) (max (a % 2) (k % 2)) (whole c) (omega arith) (or-step a k) (omega arith) in
-        and-of (bitAnd c (bitOr a k)) (bitAnd (c / 2) (bitOr (a / 2) (k / 2))) (min (c % 2) (max (a % 2) (k % 2))) a (a / 2) (a % 2) inner (omega arith) (whole a) (omega arith)
+        let kept = bitOr (a / 2) (k / 2) in
+        let low = max (a % 2) (k % 2) in
+        let inner = and-of c (c / 2) (c % 2) (bitOr a k) kept low (whole c) (omega arith) (or-step a k) (omega arith) in
+        and-of (bitAnd c (bitOr a k)) (bitAnd (c / 2) kept) (min (c % 2) low) a (a / 2) (a % 2) inner (omega arith) (whole a) (omega arith)
         ∙ ap₂ (λ (x y : ℕ). x * 2 + y) (ih (c / 2) (k / 2)) (digit c a k)
         ∙ sym (and-step c a)
 

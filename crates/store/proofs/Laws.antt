@@ -18,8 +18,10 @@ use Rattle.laws.proofs.ReadBack.{read-back}
 use Rattle.layout.specs.Layout.{validCapacity}
 use Rattle.words.specs.Words.{placed}
 use Rattle.words.proofs.Numbers.{placed-fits}
-use Rattle.store.specs.Store.{told, leaves, part, inOnePage, programmedByte, programmedBytes, programmed, mask, programStores, afterProgram, isSector, blankSector, erased, eraseStores, afterErase}
-use Rattle.store.specs.Laws.{EachByte, OnlyAt, ProgramOnlyIts, ProgramItsPart, PageOnBlank, PageOnItself, PageAgain, ProgramAgain, CallAgain, NoBitRises, EraseOnlyIts, FailedErase, AnswersTell}
+use Rattle.store.specs.Store.{told, leaves, part, inOnePage, programmedByte, programmedBytes, programmed, mask}
+use Rattle.store.specs.Store.{programStores, afterProgram, isSector, blankSector, erased, eraseStores, afterErase}
+use Rattle.store.specs.Laws.{EachByte, OnlyAt, ProgramOnlyIts, ProgramItsPart, PageOnBlank, PageOnItself, PageAgain}
+use Rattle.store.specs.Laws.{ProgramAgain, CallAgain, NoBitRises, EraseOnlyIts, FailedErase, AnswersTell}
 use Rattle.store.specs.declared.StoreAnswer.{StoreAnswer}
 use Rattle.store.specs.declared.StoreAnswer.the-variants.{Done, Refused}
 use Rattle.store.proofs.Bytes.{length-programmed-bytes, programmed-byte}

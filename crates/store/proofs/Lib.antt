@@ -4,3 +4,5 @@ pub mod Bytes
 pub mod Stores
 pub mod Replaced
 pub mod Laws
+pub mod Pages
+pub mod Refused

@@ -17,7 +17,8 @@ module _ (m : List ℕ) (at : ℕ) (new : List ℕ) (fits : at + length new ≤ 
 
   pub replaced-long : length (replaced m at new) ≡ length m
   replaced-long =
-      omega (arith, length-append (take at m) (new ++ drop (at + length new) m), length-append new (drop (at + length new) m), front, length-drop (at + length new) m)
+      let rest = drop (at + length new) m in
+      omega (arith, length-append (take at m) (new ++ rest), length-append new rest, front, length-drop (at + length new) m)
 
   -- what follows the front, and what follows the new elements
   after-front : drop at (replaced m at new) ≡ new ++ drop (at + length new) m

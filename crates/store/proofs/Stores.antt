@@ -13,8 +13,10 @@ use Rattle.laws.specs.Answers.{Answer, gives, refuses, refusal, then}
 use Rattle.laws.specs.declared.Refusal.{Refusal}
 use Rattle.words.specs.Words.{placed}
 use Rattle.words.proofs.Numbers.{placed-fits}
-use Rattle.store.specs.Store.{told, onImage, onStore, onMask, done, leaves, replied, faultAt, readOf, part, inOnePage, bytesRead, readTold, afterRead}
-use Rattle.store.specs.Store.{mask, programmed, programStores, programTold, afterProgram, isSector, blankSector, erased, eraseStores, eraseTold, afterErase}
+use Rattle.store.specs.Store.{told, onImage, onStore, onMask, done, leaves, replied}
+use Rattle.store.specs.Store.{faultAt, readOf, part, inOnePage, bytesRead, readTold, afterRead}
+use Rattle.store.specs.Store.{mask, programmed, programStores, programTold, afterProgram, isSector}
+use Rattle.store.specs.Store.{blankSector, erased, eraseStores, eraseTold, afterErase}
 use Rattle.store.specs.declared.StoreAnswer.{StoreAnswer}
 use Rattle.store.specs.declared.StoreAnswer.the-variants.{Done, Refused}
 use Rattle.store.proofs.Checks.{on-image, image-refused, image-held, lengths-refused, lengths-held, lengths-passed, one-page}
@@ -145,7 +147,8 @@ module _ (c : ℕ) (m : List ℕ) (a reply : ℕ) (s : StoreAnswer) (e : told s 
   erase-untested x w = stays (eraseStores c m a reply) m reply (x .number) (x .fault) (image-refused c (length m) s e _ x w)
 
   module _ (ok : s ≡ Done) (b : Bool) (p : b ≡ isSector c a) where
-    pub erase-misplaced : (r : Refusal) → not b ≡ true → r ≡ refusal badLength 0 → Ends (told (Refused r)) (eraseTold c m a reply) m (afterErase c m a reply)
+    pub erase-misplaced : (r : Refusal) → not b ≡ true → r ≡ refusal badLength 0
+        → Ends (told (Refused r)) (eraseTold c m a reply) m (afterErase c m a reply)
     unfolding eraseStores
     erase-misplaced r h w =
         let held = image-held c (length m) s e ok in
@@ -159,9 +162,11 @@ module _ (c : ℕ) (m : List ℕ) (a reply : ℕ) (s : StoreAnswer) (e : told s 
           let held = image-held c (length m) s e ok in
           sym (on-image c (length m) _ (held .0) (held .1) ∙ rw (← p, not-false b h, n) refl)
 
-      pub erase-fails : (r : Refusal) → (reply ≡ 0 → ⊥) → r ≡ refusal device reply → Ends (told (Refused r)) (eraseTold c m a reply) m (afterErase c m a reply)
+      pub erase-fails : (r : Refusal) → (reply ≡ 0 → ⊥) → r ≡ refusal device reply
+          → Ends (told (Refused r)) (eraseTold c m a reply) m (afterErase c m a reply)
       erase-fails r n v = failed (eraseStores c m a reply) m m reply r (stores false (ne-eqb reply 0 n)) n v
 
-      pub erase-succeeds : (new : List ℕ) → reply ≡ 0 → new ≡ placed m a (replicate 4096 255) → Ends (told Done) (eraseTold c m a reply) new (afterErase c m a reply)
+      pub erase-succeeds : (new : List ℕ) → reply ≡ 0 → new ≡ placed m a (replicate 4096 255)
+          → Ends (told Done) (eraseTold c m a reply) new (afterErase c m a reply)
       unfolding erased blankSector
       erase-succeeds new n w = succeeded (eraseStores c m a reply) m new reply (ap gives w ∙ stores true (eq-eqb reply 0 n)) n

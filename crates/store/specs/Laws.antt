@@ -3,11 +3,16 @@ use Prim.Native.Nat.{ℕ, _+_, _≤_, _<_}
 use mathlib.Core.Path.{_≡_}
 use mathlib.Core.Bool.{true}
 use mathlib.Core.List.{List, []}
+use lib.Dec.{eqb}
 use lib.ListN.{length, getD, replicate}
+use Rattle.laws.specs.Refusals.{device}
+use Rattle.laws.specs.Answers.{refuses}
 use Rattle.laws.specs.Bits.{bitClear}
 use Rattle.laws.specs.OneToOne.{OneToOne}
+use Rattle.layout.specs.Layout.{validCapacity, pagesIn, pageAt}
 use Rattle.words.specs.Words.{Bytes}
-use Rattle.store.specs.Store.{told, part, programmedByte, programmedBytes, programmed, afterProgram, blankSector, erased, afterErase}
+use Rattle.store.specs.Store.{told, replied, readTold, afterRead, part, programmedByte, programmedBytes, programmed}
+use Rattle.store.specs.Store.{mask, programTold, afterProgram, blankSector, erased, eraseTold, afterErase}
 
 -- ---- a program
 
@@ -57,6 +62,25 @@ CallAgain = (capacity : ℕ) (image : List ℕ) (address : ℕ) (target keep : L
     → afterProgram capacity (afterProgram capacity image address target keep reply) address target keep 0
     ≡ afterProgram capacity image address target keep 0
 
+-- a program of no bytes at an address inside the image or at its end alters nothing and is answered
+abbrev pub EmptyProgram : Type 0
+EmptyProgram = (capacity : ℕ) (image : List ℕ) (address : ℕ) (keep : List ℕ) (reply : ℕ) → validCapacity capacity ≡ true
+    → length image ≡ capacity → length keep ≡ 256 → address ≤ capacity
+    → (programTold capacity image address [] keep reply ≡ replied reply) × (afterProgram capacity image address [] keep reply ≡ image)
+
+-- a page of the log, programmed: never refused 17, the page's own bytes by themselves, every other page as it was
+pub record PageProgrammed (capacity : ℕ) (image : List ℕ) (i : ℕ) (page keep : List ℕ) (reply : ℕ) : Type 0 where
+  pub answers : programTold capacity image (pageAt i) page keep reply ≡ replied reply
+  pub only : OnlyAt (pageAt i) 256 image (afterProgram capacity image (pageAt i) page keep reply)
+  pub own : part (pageAt i) 256 (afterProgram capacity image (pageAt i) page keep reply)
+      ≡ programmedBytes (part (pageAt i) 256 image) page (mask (eqb reply 0) keep)
+  pub others : (j : ℕ) → (j ≡ i → ⊥) → part (pageAt j) 256 (afterProgram capacity image (pageAt i) page keep reply) ≡ part (pageAt j) 256 image
+
+abbrev pub LogPage : Type 0
+LogPage = (capacity : ℕ) (image : List ℕ) (i : ℕ) (page keep : List ℕ) (reply : ℕ) → validCapacity capacity ≡ true
+    → length image ≡ capacity → i < pagesIn capacity → length page ≡ 256 → length keep ≡ 256
+    → PageProgrammed capacity image i page keep reply
+
 -- no bit goes from 0 to 1 but by an erase
 abbrev pub NoBitRises : Type 0
 NoBitRises = (capacity : ℕ) (image : List ℕ) (address : ℕ) (target keep : List ℕ) (reply k i : ℕ)
@@ -75,6 +99,30 @@ EraseOnlyIts = (image : List ℕ) (at : ℕ) → at + 4096 ≤ length image → 
 -- "a failed erase alters nothing"
 abbrev pub FailedErase : Type 0
 FailedErase = (capacity : ℕ) (image : List ℕ) (address reply : ℕ) → (reply ≡ 0 → ⊥) → afterErase capacity image address reply ≡ image
+
+-- ---- calls, refused or not
+
+-- a program touches only its own bytes, an erase only its sector
+abbrev pub ProgramTouches : Type 0
+ProgramTouches = (capacity : ℕ) (image : List ℕ) (address : ℕ) (target keep : List ℕ) (reply : ℕ)
+    → OnlyAt address (length target) image (afterProgram capacity image address target keep reply)
+
+abbrev pub EraseTouches : Type 0
+EraseTouches = (capacity : ℕ) (image : List ℕ) (address reply : ℕ) → OnlyAt address 4096 image (afterErase capacity image address reply)
+
+-- "a refusal alters no lent byte, but for what a failing device itself stored"
+abbrev pub ReadRefused : Type 0
+ReadRefused = (capacity : ℕ) (image faults : List ℕ) (address : ℕ) (output : List ℕ) (number fault : ℕ)
+    → readTold capacity image faults address output ≡ refuses number fault → afterRead capacity image faults address output ≡ output
+
+abbrev pub ProgramRefused : Type 0
+ProgramRefused = (capacity : ℕ) (image : List ℕ) (address : ℕ) (target keep : List ℕ) (reply number fault : ℕ)
+    → programTold capacity image address target keep reply ≡ refuses number fault → (number ≡ device → ⊥)
+    → afterProgram capacity image address target keep reply ≡ image
+
+abbrev pub EraseRefused : Type 0
+EraseRefused = (capacity : ℕ) (image : List ℕ) (address reply number fault : ℕ)
+    → eraseTold capacity image address reply ≡ refuses number fault → afterErase capacity image address reply ≡ image
 
 -- ---- answers
 

@@ -10,7 +10,8 @@ use Rattle.store.proofs.program_bytes.Statement.{statement}
 use Rattle.store.proofs.program_bytes.Tie as tie
 
 abbrev Inv-loop : tie.InvT-loop
-Inv-loop image₀ at target keep succeeds i₀ image i = (i ≤ length target) × (length image ≡ length image₀) × (image ≡ soFar image₀ at target (mask succeeds keep) i)
+Inv-loop image₀ at target keep succeeds i₀ image i =
+    (i ≤ length target) × (length image ≡ length image₀) × (image ≡ soFar image₀ at target (mask succeeds keep) i)
 
 abbrev μ-loop : tie.MeasureT-loop
 μ-loop image₀ at target keep succeeds i₀ image i = length target - i
@@ -44,10 +45,11 @@ loop-less c = omega arith
 loop-again : tie.Need-loop-again Inv-loop μ-loop
 loop-again c =
     let s = c .before .before .before .before .before .before .before .before in
-    let l = c .before .before .before .before .loop in (
+    let l = c .before .before .before .before .loop in
+    let k = mask (s .args .succeeds) (s .args .keep .now) in (
       omega arith,
       simp length-set (l .inv .1),
-      one-more (s .args .image .now) (s .args .at) (s .args .target .now) (mask (s .args .succeeds) (s .args .keep .now)) (s .pre) (l .i) (omega arith) (l .image)
+      one-more (s .args .image .now) (s .args .at) (s .args .target .now) k (s .pre) (l .i) (omega arith) (l .image)
           (c .before .before .kept .result) (l .inv .2) (c .before .before .kept .ensures),
     )
 
@@ -58,10 +60,10 @@ returns : tie.Need-returns Inv-loop μ-loop
 returns c =
     let s = c .before .before .before .before .before in
     let l = c .before .loop in
+    let k = mask (s .args .succeeds) (s .args .keep .now) in
     l .inv .2
-    ∙ ap (soFar (s .args .image .now) (s .args .at) (s .args .target .now) (mask (s .args .succeeds) (s .args .keep .now)))
-    {x = l .i} {y = length (s .args .target .now)} (omega arith)
-    ∙ programmed-all (s .args .image .now) (s .args .at) (s .args .target .now) (mask (s .args .succeeds) (s .args .keep .now))
+    ∙ ap (soFar (s .args .image .now) (s .args .at) (s .args .target .now) k) {x = l .i} {y = length (s .args .target .now)} (omega arith)
+    ∙ programmed-all (s .args .image .now) (s .args .at) (s .args .target .now) k
 
 pub program-bytes-spec : {M : Type 1} → statement M
 program-bytes-spec =
