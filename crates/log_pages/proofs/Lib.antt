@@ -1,0 +1,4 @@
+pub mod Decide
+pub mod Real
+pub mod Scan
+pub mod Search
