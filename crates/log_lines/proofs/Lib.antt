@@ -1,0 +1,6 @@
+pub mod Notation
+pub mod Back
+pub mod Growing
+pub mod Listing
+pub mod Acks
+pub mod Fits
