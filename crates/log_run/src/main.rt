@@ -165,12 +165,7 @@ fn hole(image: &mut [u8], faults: &[u8]) {
     say_scan(b"scan, page 3 blank among used ones:", image, faults);
 }
 
-fn acknowledgements(image: &mut [u8], faults: &mut [u8]) {
-    put_page(image, 0, 1);
-    put_page(image, 1, 1);
-    put_page(image, 2, 1);
-    put_page(image, 3, 2);
-    put_page(image, 4, 2);
+fn lengths(image: &[u8], faults: &[u8]) {
     say_ack(
         b"ack flight 1, 3 pages:",
         image,
@@ -196,6 +191,9 @@ fn acknowledgements(image: &mut [u8], faults: &mut [u8]) {
         4,
     );
     say_ack(b"ack flight 3:", image, faults, Recording::Nothing, 3, 1);
+}
+
+fn numbers(image: &[u8], faults: &[u8]) {
     say_ack(b"ack flight 0:", image, faults, Recording::Nothing, 0, 1);
     say_ack(
         b"ack flight 0 while it is recorded:",
@@ -221,6 +219,9 @@ fn acknowledgements(image: &mut [u8], faults: &mut [u8]) {
         32705,
         1,
     );
+}
+
+fn lists(image: &[u8], faults: &[u8]) {
     say_list(b"unsynced, two flights:", image, faults, 5);
     say_all(b"all synced:", image, faults, 5, Recording::Nothing);
     say_all(
@@ -230,6 +231,17 @@ fn acknowledgements(image: &mut [u8], faults: &mut [u8]) {
         0,
         Recording::Nothing,
     );
+}
+
+fn two_flights(image: &mut [u8]) {
+    put_page(image, 0, 1);
+    put_page(image, 1, 1);
+    put_page(image, 2, 1);
+    put_page(image, 3, 2);
+    put_page(image, 4, 2);
+}
+
+fn unreadable(image: &mut [u8], faults: &mut [u8]) {
     words::put_bytes(faults, 50, b"\x07");
     say_ack(
         b"ack flight 1, a fault at page 2:",
@@ -257,6 +269,14 @@ fn acknowledgements(image: &mut [u8], faults: &mut [u8]) {
         1,
         3,
     );
+}
+
+fn acknowledgements(image: &mut [u8], faults: &mut [u8]) {
+    two_flights(image);
+    lengths(image, faults);
+    numbers(image, faults);
+    lists(image, faults);
+    unreadable(image, faults);
 }
 
 fn nine(image: &mut [u8], faults: &[u8]) {
