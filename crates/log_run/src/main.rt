@@ -130,7 +130,7 @@ fn say_all(name: &[u8], image: &[u8], faults: &[u8], used: u32, recording: Recor
     }
 }
 
-fn scans(image: &mut [u8], faults: &mut [u8]) {
+fn one_torn(image: &mut [u8], faults: &[u8]) {
     say_scan(b"scan, erased:", image, faults);
     put_page(image, 0, 1);
     put_page(image, 1, 1);
@@ -139,6 +139,9 @@ fn scans(image: &mut [u8], faults: &mut [u8]) {
     say_scan(b"scan, one torn page at the end:", image, faults);
     say_find(b"find flight 1:", image, faults, 3, 1);
     say_find(b"find flight 2:", image, faults, 3, 2);
+}
+
+fn two_torn(image: &mut [u8], faults: &[u8]) {
     tear_page(image, 3);
     say_scan(b"scan, two torn pages at the end:", image, faults);
     say_find(b"find flight 1 over them:", image, faults, 4, 1);
@@ -149,11 +152,20 @@ fn scans(image: &mut [u8], faults: &mut [u8]) {
         40,
         1,
     );
+}
+
+fn page_zero(image: &mut [u8], faults: &mut [u8]) {
     words::put_bytes(faults, 48, b"\x05");
     say_scan(b"scan, a fault at page 0:", image, faults);
     words::put_bytes(faults, 48, b"\x00");
     tear_page(image, 0);
     say_scan(b"scan, page 0 torn:", image, faults);
+}
+
+fn scans(image: &mut [u8], faults: &mut [u8]) {
+    one_torn(image, faults);
+    two_torn(image, faults);
+    page_zero(image, faults);
 }
 
 fn hole(image: &mut [u8], faults: &[u8]) {
@@ -279,7 +291,7 @@ fn acknowledgements(image: &mut [u8], faults: &mut [u8]) {
     unreadable(image, faults);
 }
 
-fn nine(image: &mut [u8], faults: &[u8]) {
+fn eight_flights(image: &mut [u8]) {
     put_page(image, 0, 1);
     put_page(image, 1, 2);
     put_page(image, 2, 3);
@@ -288,6 +300,10 @@ fn nine(image: &mut [u8], faults: &[u8]) {
     put_page(image, 5, 6);
     put_page(image, 6, 7);
     put_page(image, 7, 8);
+}
+
+fn nine(image: &mut [u8], faults: &[u8]) {
+    eight_flights(image);
     say_list(b"unsynced, eight flights:", image, faults, 8);
     put_page(image, 8, 9);
     say_list(b"unsynced, nine flights:", image, faults, 9);
