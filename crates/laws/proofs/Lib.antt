@@ -3,3 +3,4 @@ pub mod Chain
 pub mod ReadBack
 pub mod Bits
 pub mod Halving
+pub mod Choice
