@@ -71,7 +71,7 @@ module _ (pages : ℕ) (image : List ℕ) (room : logStart + pages * 256 ≤ len
 
 -- ---- turn by turn
 
-turn-only : (pages : ℕ) (next : NextProgram) (keep : List ℕ) (p : Pass) (image : List ℕ) → SoundPass p → logStart + pages * 256 ≤ length image
+pub turn-only : (pages : ℕ) (next : NextProgram) (keep : List ℕ) (p : Pass) (image : List ℕ) → SoundPass p → logStart + pages * 256 ≤ length image
     → OnlyAt logStart (pages * 256) image (turnImage pages next keep p image)
 unfolding turnImage withWriter
 turn-only pages next keep p image s room =
@@ -110,7 +110,7 @@ turns-only pages next b keep (suc n) p image s room =
 -- ---- the calls
 
 -- an image of a valid capacity has room for its log
-has-room : (c : ℕ) → validCapacity c ≡ true → logStart + pagesIn c * 256 ≤ c
+pub has-room : (c : ℕ) → validCapacity c ≡ true → logStart + pagesIn c * 256 ≤ c
 unfolding validCapacity
 has-room c h = go (ltb 16384 c) refl h
   where
