@@ -25,7 +25,9 @@ array-share-prefix-bytes : tie.Need-array-share-prefix-bytes
 array-share-prefix-bytes c = length-within (c .before .census-text .result) _ (c .before .census-text .ensures)
 
 slice-aggregate-write-all : tie.Need-slice-aggregate-write-all
-slice-aggregate-write-all c = let t = c .before .before .census-text in sym (length-take-le (t .result .length) (t .result .bytes) (length-within (t .result) _ (t .ensures)))
+slice-aggregate-write-all c =
+    let t = c .before .before .census-text in
+    sym (length-take-le (t .result .length) (t .result .bytes) (length-within (t .result) _ (t .ensures)))
 
 write-all-requires : tie.Need-write-all-requires
 write-all-requires c κs = search needs

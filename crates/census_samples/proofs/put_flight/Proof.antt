@@ -1,4 +1,5 @@
--- `census_samples::put_flight` is safe and ends. The loop's invariant: at most so many pages are put, and the image keeps its length. Assumes nothing.
+-- `census_samples::put_flight` is safe and ends. The loop's invariant: at most so many pages are put, and the image keeps its
+-- length. Assumes nothing.
 use Prim.Native.Nat.{_-_, _≤_}
 use mathlib.Core.Path.{_≡_, refl, _∙_}
 use lib.ListN.{length}
