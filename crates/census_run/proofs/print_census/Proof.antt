@@ -1,5 +1,4 @@
 -- `census_run::print_census` meets its contract. Assumes nothing.
-use mathlib.Core.Path.{sym}
 use lib.Seq.{length-take-le}
 use Rattle.census_text.proofs.Texts.{length-within}
 use borrow.Author.Needs.{needs}
@@ -22,12 +21,10 @@ census-text-requires : tie.Need-census-text-requires
 census-text-requires c κs = search needs
 
 array-share-prefix-bytes : tie.Need-array-share-prefix-bytes
-array-share-prefix-bytes c = length-within (c .before .census-text .result) _ (c .before .census-text .ensures)
+array-share-prefix-bytes c = search (length-within, needs)
 
 slice-aggregate-write-all : tie.Need-slice-aggregate-write-all
-slice-aggregate-write-all c =
-    let t = c .before .before .census-text in
-    sym (length-take-le (t .result .length) (t .result .bytes) (length-within (t .result) _ (t .ensures)))
+slice-aggregate-write-all c = search (length-take-le, length-within, needs)
 
 write-all-requires : tie.Need-write-all-requires
 write-all-requires c κs = search needs
