@@ -60,6 +60,10 @@ record-there : (bytes : List ℕ) → length bytes ≡ 288 → recordDecoded (pa
 unfolding recordDecoded
 record-there bytes n = rw (eq-eqb (length (part 32 48 bytes)) 48 (length-take-le 48 (drop 32 bytes) (omega (arith, length-drop 32 bytes)))) refl
 
+pub record-in : (bytes : List ℕ) (answer : RecordAnswer) → length bytes ≡ 288 → answer ≡ recordAnswer (recordDecoded (part 32 48 bytes))
+    → answer .«record» ≡ recordOf (part 32 48 bytes)
+record-in bytes answer n e = ap (λ (x : RecordAnswer). x .«record») (e ∙ ap recordAnswer (record-there bytes n))
+
 -- ---- the operation that a row says, by its byte
 
 module _ (bytes : List ℕ) where
@@ -120,10 +124,7 @@ module _ (bytes : List ℕ) where
   unfolding rowOf
   offer-row answer payload expected r n e ea ep ee er =
       is-that (offers (recordOf (part 32 48 bytes))) expected r (says-offer e)
-      (ee ∙ ap (row 0 0 0 0 0 0 0) (ep ∙ ap recordBytes (ap (λ (x : RecordAnswer). x .«record») (ea ∙ read)))) er
-    where
-      read : recordAnswer (recordDecoded (part 32 48 bytes)) ≡ record { refused = 0; «record» = recordOf (part 32 48 bytes) }
-      read = ap recordAnswer (record-there bytes n)
+      (ee ∙ ap (row 0 0 0 0 0 0 0) (ep ∙ ap recordBytes (record-in bytes answer n ea))) er
 
   pub drain-row : (next : NextProgram) (b nb na nd limit succeed : ℕ) (armed whileDisarmed : Bool) (expected : List ℕ) (r : Bool)
       → code ≡ 1 → b ≡ getD bytes 3 0 → next ≡ nextIn b → nb ≡ nextByte next → armed ≡ flagAt bytes 4 → na ≡ flagByte armed
