@@ -10,7 +10,7 @@ use native.Mathlib.Nat.{add-suc, add-zero, suc-ne-zero}
 use lib.Dec.{eqb, leb, ltb}
 use lib.ListN.{length, getD, set, take, drop, length-set}
 use lib.Seq.{length-take-le, take-suc, drop-cons, append-snoc, set-at, set-getD}
-use borrow.Author.Tests.{lt-ltb, le-ltb, eqb-true, leb-true}
+use borrow.Author.Tests.{lt-ltb, le-ltb, lt-leb, le-leb, eq-eqb, ne-eqb, eqb-true, leb-true}
 use Rattle.laws.specs.Refusals.{badLength}
 use Rattle.log_search.specs.declared.StoredFlight.{StoredFlight}
 use Rattle.log_sync.specs.Sync.{noFlight}
@@ -78,6 +78,32 @@ pub next : (list : Unsynced) (row : List StoredFlight) (n : ℕ) (r : StoredFlig
     → r ≡ entryAt list n (getD (entered list n row) n noFlight)
     → set (entered list n row) n r ≡ entered list (suc n) row
 next list row n r e = ap (set (entered list n row) n) e
+
+-- one entry: the list's below the count, the old one from there on
+pub entry-listed : (list : Unsynced) (i : ℕ) (old : StoredFlight) → i < list .count → getD (list .flights) i noFlight ≡ entryAt list i old
+unfolding entryAt
+entry-listed list i old h = sym (ap (λ (b : Bool). cond b (getD (list .flights) i noFlight) old) (lt-ltb i (list .count) h))
+
+pub entry-kept : (list : Unsynced) (i : ℕ) (old : StoredFlight) → list .count ≤ i → old ≡ entryAt list i old
+unfolding entryAt
+entry-kept list i old h = sym (ap (λ (b : Bool). cond b (getD (list .flights) i noFlight) old) (le-ltb i (list .count) h))
+
+-- the number, by the lengths
+pub row-refused : (rowLength count : ℕ) → (rowLength ≡ 8 → ⊥) → badLength ≡ rowNumber rowLength count
+unfolding rowNumber
+row-refused rowLength count h = sym (ap (λ (b : Bool). cond b (cond (leb count 8) 0 badLength) badLength) (ne-eqb rowLength 8 h))
+
+pub count-refused : (rowLength count : ℕ) → rowLength ≡ 8 → 8 < count → badLength ≡ rowNumber rowLength count
+unfolding rowNumber
+count-refused rowLength count e h =
+    sym (ap (λ (b : Bool). cond b (cond (leb count 8) 0 badLength) badLength) (eq-eqb rowLength 8 e)
+    ∙ ap (λ (b : Bool). cond b 0 badLength) (lt-leb count 8 h))
+
+pub none-refused : (rowLength count : ℕ) → rowLength ≡ 8 → count ≤ 8 → 0 ≡ rowNumber rowLength count
+unfolding rowNumber
+none-refused rowLength count e h =
+    sym (ap (λ (b : Bool). cond b (cond (leb count 8) 0 badLength) badLength) (eq-eqb rowLength 8 e)
+    ∙ ap (λ (b : Bool). cond b 0 badLength) (le-leb count 8 h))
 
 -- what a number of 0 says of the lengths
 pub accepted : (rowLength count : ℕ) → rowNumber rowLength count ≡ 0 → (rowLength ≡ 8) × (count ≤ 8)
