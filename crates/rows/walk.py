@@ -186,32 +186,32 @@ module _ {M : Type 1} (𝓤 : URA M) (H : Heap 𝓤) (A : Atoms 𝓤) (W : Given
           enter ! C Λ code.function (sliceVal (b, o) (length ys) ∷ machL l ∷ []) _ $
 """
 
+# The stretch of one entry. K is its number, RL and WL the places read and written, and RD, WR, TK, FL, RA, LS where the places, what is
+# read, `flight`, the row and the list stand.
 ENTRY = """\
           -- entry K
           elem-out ! T.the-row (Is T.the-row) (shows 𝓤 H A T.the-row) (LL.vals T.the-type T′.the-laws) (LL.tells T.the-type T′.the-laws)
           fullShare (entered l K ys) K noFlight b o (within K (lit< tt)) (λ wasK.
-          assigns ! (bin ! (load ! (from ! (fld ! refl (stop !))) (look-in ! ROWAT (sub ! 0 refl (whole !)))) (lit ! tt) tt) (from ! (stop !))
-          (init ! READ refl (tt, tt)) $
-          rewrite ! READ (λ (p : ℕ). ‵ (fat fullShare tyPtr lREADER 0 (vptr b p))) (sym (place-is SIZE o K)) refl $
-          assigns ! (of-opd ! (load ! (from ! (hop ! (look ! READ refl) (stop !))) (look-raw ! 0 refl))) (from ! (stop !))
-          (PUT ! TAKEN refl (LL.lawful T.the-type T′.the-laws 𝓤 H A W .typed (old K) _ wasK .0)) $
-          assigns ! (of-opd ! (load ! (from ! (stop !)) (look ! TAKEN refl))) (from ! (stop !))
-          (PUT ! FLIGHT refl (LL.lawful T.the-type T′.the-laws 𝓤 H A W .typed (old K) _ wasK .0)) $
+          assigns ! (bin ! (load ! (from ! (fld ! refl (stop !))) (look-in ! RA (sub ! 0 refl (whole !)))) (lit ! tt) tt) (from ! (stop !))
+          (init ! RD refl (tt, tt)) $ rewrite ! RD (λ (p : ℕ). ‵ (fat fullShare tyPtr lRL 0 (vptr b p))) (sym (place-is SIZE o K)) refl $
+          assigns ! (of-opd ! (load ! (from ! (hop ! (look ! RD refl) (stop !))) (look-raw ! 0 refl))) (from ! (stop !))
+          (PUT ! TK refl (LL.lawful T.the-type T′.the-laws 𝓤 H A W .typed (old K) _ wasK .0)) $
+          assigns ! (of-opd ! (load ! (from ! (stop !)) (look ! TK refl))) (from ! (stop !))
+          (PUT ! FL refl (LL.lawful T.the-type T′.the-laws 𝓤 H A W .typed (old K) _ wasK .0)) $
           move ! (1 ∷ []) $ use1 W (raw (Entry 𝓤 H A at-mem run .pre (to-entry K))) (goes-entry K (lit< tt)) $
-          calls-at ! fm (Entry 𝓤 H A at-mem run) known (to-entry K) (and-then ! (load ! (from ! (stop !)) (look ! LIST refl))
-          (and-then ! (lit ! tt) (and-then ! (load ! (from ! (stop !)) (look ! FLIGHT refl)) (no-more !)))) (λ vK.
+          calls-at ! fm (Entry 𝓤 H A at-mem run) known (to-entry K) (and-then ! (load ! (from ! (stop !)) (look ! LS refl))
+          (and-then ! (lit ! tt) (and-then ! (load ! (from ! (stop !)) (look ! FL refl)) (no-more !)))) (λ vK.
           use1 W (later (some (λ (r : StoredFlight). (‵ ftrue ⊛ ‵ (T.the-row .own r (vK ∷ [])))
           ⊛ raw (ensured 𝓤 H A entry.ended (entry.clauses 𝓤 H A at-mem run) tt (l, (K, (old K, tt))) tt r)))) (id⊢ 𝓤 _) $ await ! tt $
           pick ! (λ rK. split ! $ move ! (1 ∷ []) $
           use1 W (raw (fact 𝓤 (rK ≡ entryAt l K (old K)))) (picked 𝓤 H A at-mem run l K (old K) rK) $
           heard ! (rK ≡ entryAt l K (old K)) (λ eK. split ! $ drop ! $
           peeks ! T.the-row (Is T.the-row) (shows 𝓤 H A T.the-row) rK (vK ∷ []) (λ isK.
-          land ! (from ! (stop !)) (store ! FLIGHT refl (LL.lawful T.the-type T′.the-laws 𝓤 H A W .typed rK _ isK .0)) $
-          rewrite ! FLIGHT (λ (u : Val). ‵ (fat fullShare T′.mir l3 0 u)) (ap only (LL.tells T.the-type T′.the-laws rK (vK ∷ []) isK)) refl $
-          assigns ! (bin ! (load ! (from ! (fld ! refl (stop !))) (look-in ! ROWAT (sub ! 0 refl (whole !)))) (lit ! tt) tt) (from ! (stop !))
-          (init ! WRITTEN refl (tt, tt)) $
-          rewrite ! WRITTEN (λ (p : ℕ). ‵ (fat fullShare tyPtr lWRITER 0 (vptr b p))) (sym (place-is SIZE o K)) refl $
-          assigns ! (of-opd ! (load ! (from ! (stop !)) (look ! FLIGHT refl))) (from ! (hop ! (look ! WRITTEN refl) (stop !)))
+          land ! (from ! (stop !)) (store ! FL refl (LL.lawful T.the-type T′.the-laws 𝓤 H A W .typed rK _ isK .0)) $
+          rewrite ! FL (λ (u : Val). ‵ (fat fullShare T′.mir l3 0 u)) (ap only (LL.tells T.the-type T′.the-laws rK (vK ∷ []) isK)) refl $
+          assigns ! (bin ! (load ! (from ! (fld ! refl (stop !))) (look-in ! RA (sub ! 0 refl (whole !)))) (lit ! tt) tt) (from ! (stop !))
+          (init ! WR refl (tt, tt)) $ rewrite ! WR (λ (p : ℕ). ‵ (fat fullShare tyPtr lWL 0 (vptr b p))) (sym (place-is SIZE o K)) refl $
+          assigns ! (of-opd ! (load ! (from ! (stop !)) (look ! FL refl))) (from ! (hop ! (look ! WR refl) (stop !)))
           (store-raw ! 1 refl (LL.lawful T.the-type T′.the-laws 𝓤 H A W .typed rK _ (its-own rK vK isK) .0)) $ drop ! $
           owned ! T.the-row (Is T.the-row) ((LL.makes T.the-type T′.the-plain) 𝓤 H A) rK _ (its-own rK vK isK) $ move ! (1 ∷ 0 ∷ []) $
           elem-put ! T.the-row fullShare (entered l K ys) K rK (mach rK ∷ []) b o (within K (lit< tt)) $
@@ -269,9 +269,9 @@ def packed(words):
 def entry(k):
     read, written = places(k)
     text = ENTRY
-    for name, value in (("ROWAT", at(1, FRONT)), ("READER", read), ("WRITER", written), ("READ", at(read, FRONT)),
-                        ("WRITTEN", at(written, FRONT)), ("TAKEN", at(5, FRONT)), ("FLIGHT", at(3, FRONT)),
-                        ("LIST", at(2, FRONT)), ("SIZE", SIZE), ("PUT", "init" if k == 0 else "store"), ("K", k)):
+    for name, value in (("RA", at(1, FRONT)), ("RL", read), ("WL", written), ("RD", at(read, FRONT)),
+                        ("WR", at(written, FRONT)), ("TK", at(5, FRONT)), ("FL", at(3, FRONT)),
+                        ("LS", at(2, FRONT)), ("SIZE", SIZE), ("PUT", "init" if k == 0 else "store"), ("K", k)):
         text = text.replace(name, str(value))
     return text
 

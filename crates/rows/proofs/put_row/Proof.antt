@@ -165,8 +165,7 @@ module _ {M : Type 1} (𝓤 : URA M) (H : Heap 𝓤) (A : Atoms 𝓤) (W : Given
           elem-out ! T.the-row (Is T.the-row) (shows 𝓤 H A T.the-row) (LL.vals T.the-type T′.the-laws) (LL.tells T.the-type T′.the-laws)
           fullShare (entered l 0 ys) 0 noFlight b o (within 0 (lit< tt)) (λ was0.
           assigns ! (bin ! (load ! (from ! (fld ! refl (stop !))) (look-in ! 47 (sub ! 0 refl (whole !)))) (lit ! tt) tt) (from ! (stop !))
-          (init ! 41 refl (tt, tt)) $
-          rewrite ! 41 (λ (p : ℕ). ‵ (fat fullShare tyPtr l4 0 (vptr b p))) (sym (place-is 12 o 0)) refl $
+          (init ! 41 refl (tt, tt)) $ rewrite ! 41 (λ (p : ℕ). ‵ (fat fullShare tyPtr l4 0 (vptr b p))) (sym (place-is 12 o 0)) refl $
           assigns ! (of-opd ! (load ! (from ! (hop ! (look ! 41 refl) (stop !))) (look-raw ! 0 refl))) (from ! (stop !))
           (init ! 39 refl (LL.lawful T.the-type T′.the-laws 𝓤 H A W .typed (old 0) _ was0 .0)) $
           assigns ! (of-opd ! (load ! (from ! (stop !)) (look ! 39 refl))) (from ! (stop !))
@@ -183,8 +182,7 @@ module _ {M : Type 1} (𝓤 : URA M) (H : Heap 𝓤) (A : Atoms 𝓤) (W : Given
           land ! (from ! (stop !)) (store ! 43 refl (LL.lawful T.the-type T′.the-laws 𝓤 H A W .typed r0 _ is0 .0)) $
           rewrite ! 43 (λ (u : Val). ‵ (fat fullShare T′.mir l3 0 u)) (ap only (LL.tells T.the-type T′.the-laws r0 (v0 ∷ []) is0)) refl $
           assigns ! (bin ! (load ! (from ! (fld ! refl (stop !))) (look-in ! 47 (sub ! 0 refl (whole !)))) (lit ! tt) tt) (from ! (stop !))
-          (init ! 37 refl (tt, tt)) $
-          rewrite ! 37 (λ (p : ℕ). ‵ (fat fullShare tyPtr l6 0 (vptr b p))) (sym (place-is 12 o 0)) refl $
+          (init ! 37 refl (tt, tt)) $ rewrite ! 37 (λ (p : ℕ). ‵ (fat fullShare tyPtr l6 0 (vptr b p))) (sym (place-is 12 o 0)) refl $
           assigns ! (of-opd ! (load ! (from ! (stop !)) (look ! 43 refl))) (from ! (hop ! (look ! 37 refl) (stop !)))
           (store-raw ! 1 refl (LL.lawful T.the-type T′.the-laws 𝓤 H A W .typed r0 _ (its-own r0 v0 is0) .0)) $ drop ! $
           owned ! T.the-row (Is T.the-row) ((LL.makes T.the-type T′.the-plain) 𝓤 H A) r0 _ (its-own r0 v0 is0) $ move ! (1 ∷ 0 ∷ []) $
@@ -194,8 +192,7 @@ module _ {M : Type 1} (𝓤 : URA M) (H : Heap 𝓤) (A : Atoms 𝓤) (W : Given
           elem-out ! T.the-row (Is T.the-row) (shows 𝓤 H A T.the-row) (LL.vals T.the-type T′.the-laws) (LL.tells T.the-type T′.the-laws)
           fullShare (entered l 1 ys) 1 noFlight b o (within 1 (lit< tt)) (λ was1.
           assigns ! (bin ! (load ! (from ! (fld ! refl (stop !))) (look-in ! 47 (sub ! 0 refl (whole !)))) (lit ! tt) tt) (from ! (stop !))
-          (init ! 35 refl (tt, tt)) $
-          rewrite ! 35 (λ (p : ℕ). ‵ (fat fullShare tyPtr l7 0 (vptr b p))) (sym (place-is 12 o 1)) refl $
+          (init ! 35 refl (tt, tt)) $ rewrite ! 35 (λ (p : ℕ). ‵ (fat fullShare tyPtr l7 0 (vptr b p))) (sym (place-is 12 o 1)) refl $
           assigns ! (of-opd ! (load ! (from ! (hop ! (look ! 35 refl) (stop !))) (look-raw ! 0 refl))) (from ! (stop !))
           (store ! 39 refl (LL.lawful T.the-type T′.the-laws 𝓤 H A W .typed (old 1) _ was1 .0)) $
           assigns ! (of-opd ! (load ! (from ! (stop !)) (look ! 39 refl))) (from ! (stop !))
@@ -212,8 +209,7 @@ module _ {M : Type 1} (𝓤 : URA M) (H : Heap 𝓤) (A : Atoms 𝓤) (W : Given
           land ! (from ! (stop !)) (store ! 43 refl (LL.lawful T.the-type T′.the-laws 𝓤 H A W .typed r1 _ is1 .0)) $
           rewrite ! 43 (λ (u : Val). ‵ (fat fullShare T′.mir l3 0 u)) (ap only (LL.tells T.the-type T′.the-laws r1 (v1 ∷ []) is1)) refl $
           assigns ! (bin ! (load ! (from ! (fld ! refl (stop !))) (look-in ! 47 (sub ! 0 refl (whole !)))) (lit ! tt) tt) (from ! (stop !))
-          (init ! 33 refl (tt, tt)) $
-          rewrite ! 33 (λ (p : ℕ). ‵ (fat fullShare tyPtr l8 0 (vptr b p))) (sym (place-is 12 o 1)) refl $
+          (init ! 33 refl (tt, tt)) $ rewrite ! 33 (λ (p : ℕ). ‵ (fat fullShare tyPtr l8 0 (vptr b p))) (sym (place-is 12 o 1)) refl $
           assigns ! (of-opd ! (load ! (from ! (stop !)) (look ! 43 refl))) (from ! (hop ! (look ! 33 refl) (stop !)))
           (store-raw ! 1 refl (LL.lawful T.the-type T′.the-laws 𝓤 H A W .typed r1 _ (its-own r1 v1 is1) .0)) $ drop ! $
           owned ! T.the-row (Is T.the-row) ((LL.makes T.the-type T′.the-plain) 𝓤 H A) r1 _ (its-own r1 v1 is1) $ move ! (1 ∷ 0 ∷ []) $
@@ -223,8 +219,7 @@ module _ {M : Type 1} (𝓤 : URA M) (H : Heap 𝓤) (A : Atoms 𝓤) (W : Given
           elem-out ! T.the-row (Is T.the-row) (shows 𝓤 H A T.the-row) (LL.vals T.the-type T′.the-laws) (LL.tells T.the-type T′.the-laws)
           fullShare (entered l 2 ys) 2 noFlight b o (within 2 (lit< tt)) (λ was2.
           assigns ! (bin ! (load ! (from ! (fld ! refl (stop !))) (look-in ! 47 (sub ! 0 refl (whole !)))) (lit ! tt) tt) (from ! (stop !))
-          (init ! 31 refl (tt, tt)) $
-          rewrite ! 31 (λ (p : ℕ). ‵ (fat fullShare tyPtr l9 0 (vptr b p))) (sym (place-is 12 o 2)) refl $
+          (init ! 31 refl (tt, tt)) $ rewrite ! 31 (λ (p : ℕ). ‵ (fat fullShare tyPtr l9 0 (vptr b p))) (sym (place-is 12 o 2)) refl $
           assigns ! (of-opd ! (load ! (from ! (hop ! (look ! 31 refl) (stop !))) (look-raw ! 0 refl))) (from ! (stop !))
           (store ! 39 refl (LL.lawful T.the-type T′.the-laws 𝓤 H A W .typed (old 2) _ was2 .0)) $
           assigns ! (of-opd ! (load ! (from ! (stop !)) (look ! 39 refl))) (from ! (stop !))
@@ -241,8 +236,7 @@ module _ {M : Type 1} (𝓤 : URA M) (H : Heap 𝓤) (A : Atoms 𝓤) (W : Given
           land ! (from ! (stop !)) (store ! 43 refl (LL.lawful T.the-type T′.the-laws 𝓤 H A W .typed r2 _ is2 .0)) $
           rewrite ! 43 (λ (u : Val). ‵ (fat fullShare T′.mir l3 0 u)) (ap only (LL.tells T.the-type T′.the-laws r2 (v2 ∷ []) is2)) refl $
           assigns ! (bin ! (load ! (from ! (fld ! refl (stop !))) (look-in ! 47 (sub ! 0 refl (whole !)))) (lit ! tt) tt) (from ! (stop !))
-          (init ! 29 refl (tt, tt)) $
-          rewrite ! 29 (λ (p : ℕ). ‵ (fat fullShare tyPtr l10 0 (vptr b p))) (sym (place-is 12 o 2)) refl $
+          (init ! 29 refl (tt, tt)) $ rewrite ! 29 (λ (p : ℕ). ‵ (fat fullShare tyPtr l10 0 (vptr b p))) (sym (place-is 12 o 2)) refl $
           assigns ! (of-opd ! (load ! (from ! (stop !)) (look ! 43 refl))) (from ! (hop ! (look ! 29 refl) (stop !)))
           (store-raw ! 1 refl (LL.lawful T.the-type T′.the-laws 𝓤 H A W .typed r2 _ (its-own r2 v2 is2) .0)) $ drop ! $
           owned ! T.the-row (Is T.the-row) ((LL.makes T.the-type T′.the-plain) 𝓤 H A) r2 _ (its-own r2 v2 is2) $ move ! (1 ∷ 0 ∷ []) $
@@ -252,8 +246,7 @@ module _ {M : Type 1} (𝓤 : URA M) (H : Heap 𝓤) (A : Atoms 𝓤) (W : Given
           elem-out ! T.the-row (Is T.the-row) (shows 𝓤 H A T.the-row) (LL.vals T.the-type T′.the-laws) (LL.tells T.the-type T′.the-laws)
           fullShare (entered l 3 ys) 3 noFlight b o (within 3 (lit< tt)) (λ was3.
           assigns ! (bin ! (load ! (from ! (fld ! refl (stop !))) (look-in ! 47 (sub ! 0 refl (whole !)))) (lit ! tt) tt) (from ! (stop !))
-          (init ! 27 refl (tt, tt)) $
-          rewrite ! 27 (λ (p : ℕ). ‵ (fat fullShare tyPtr l11 0 (vptr b p))) (sym (place-is 12 o 3)) refl $
+          (init ! 27 refl (tt, tt)) $ rewrite ! 27 (λ (p : ℕ). ‵ (fat fullShare tyPtr l11 0 (vptr b p))) (sym (place-is 12 o 3)) refl $
           assigns ! (of-opd ! (load ! (from ! (hop ! (look ! 27 refl) (stop !))) (look-raw ! 0 refl))) (from ! (stop !))
           (store ! 39 refl (LL.lawful T.the-type T′.the-laws 𝓤 H A W .typed (old 3) _ was3 .0)) $
           assigns ! (of-opd ! (load ! (from ! (stop !)) (look ! 39 refl))) (from ! (stop !))
@@ -270,8 +263,7 @@ module _ {M : Type 1} (𝓤 : URA M) (H : Heap 𝓤) (A : Atoms 𝓤) (W : Given
           land ! (from ! (stop !)) (store ! 43 refl (LL.lawful T.the-type T′.the-laws 𝓤 H A W .typed r3 _ is3 .0)) $
           rewrite ! 43 (λ (u : Val). ‵ (fat fullShare T′.mir l3 0 u)) (ap only (LL.tells T.the-type T′.the-laws r3 (v3 ∷ []) is3)) refl $
           assigns ! (bin ! (load ! (from ! (fld ! refl (stop !))) (look-in ! 47 (sub ! 0 refl (whole !)))) (lit ! tt) tt) (from ! (stop !))
-          (init ! 25 refl (tt, tt)) $
-          rewrite ! 25 (λ (p : ℕ). ‵ (fat fullShare tyPtr l12 0 (vptr b p))) (sym (place-is 12 o 3)) refl $
+          (init ! 25 refl (tt, tt)) $ rewrite ! 25 (λ (p : ℕ). ‵ (fat fullShare tyPtr l12 0 (vptr b p))) (sym (place-is 12 o 3)) refl $
           assigns ! (of-opd ! (load ! (from ! (stop !)) (look ! 43 refl))) (from ! (hop ! (look ! 25 refl) (stop !)))
           (store-raw ! 1 refl (LL.lawful T.the-type T′.the-laws 𝓤 H A W .typed r3 _ (its-own r3 v3 is3) .0)) $ drop ! $
           owned ! T.the-row (Is T.the-row) ((LL.makes T.the-type T′.the-plain) 𝓤 H A) r3 _ (its-own r3 v3 is3) $ move ! (1 ∷ 0 ∷ []) $
@@ -281,8 +273,7 @@ module _ {M : Type 1} (𝓤 : URA M) (H : Heap 𝓤) (A : Atoms 𝓤) (W : Given
           elem-out ! T.the-row (Is T.the-row) (shows 𝓤 H A T.the-row) (LL.vals T.the-type T′.the-laws) (LL.tells T.the-type T′.the-laws)
           fullShare (entered l 4 ys) 4 noFlight b o (within 4 (lit< tt)) (λ was4.
           assigns ! (bin ! (load ! (from ! (fld ! refl (stop !))) (look-in ! 47 (sub ! 0 refl (whole !)))) (lit ! tt) tt) (from ! (stop !))
-          (init ! 23 refl (tt, tt)) $
-          rewrite ! 23 (λ (p : ℕ). ‵ (fat fullShare tyPtr l13 0 (vptr b p))) (sym (place-is 12 o 4)) refl $
+          (init ! 23 refl (tt, tt)) $ rewrite ! 23 (λ (p : ℕ). ‵ (fat fullShare tyPtr l13 0 (vptr b p))) (sym (place-is 12 o 4)) refl $
           assigns ! (of-opd ! (load ! (from ! (hop ! (look ! 23 refl) (stop !))) (look-raw ! 0 refl))) (from ! (stop !))
           (store ! 39 refl (LL.lawful T.the-type T′.the-laws 𝓤 H A W .typed (old 4) _ was4 .0)) $
           assigns ! (of-opd ! (load ! (from ! (stop !)) (look ! 39 refl))) (from ! (stop !))
@@ -299,8 +290,7 @@ module _ {M : Type 1} (𝓤 : URA M) (H : Heap 𝓤) (A : Atoms 𝓤) (W : Given
           land ! (from ! (stop !)) (store ! 43 refl (LL.lawful T.the-type T′.the-laws 𝓤 H A W .typed r4 _ is4 .0)) $
           rewrite ! 43 (λ (u : Val). ‵ (fat fullShare T′.mir l3 0 u)) (ap only (LL.tells T.the-type T′.the-laws r4 (v4 ∷ []) is4)) refl $
           assigns ! (bin ! (load ! (from ! (fld ! refl (stop !))) (look-in ! 47 (sub ! 0 refl (whole !)))) (lit ! tt) tt) (from ! (stop !))
-          (init ! 21 refl (tt, tt)) $
-          rewrite ! 21 (λ (p : ℕ). ‵ (fat fullShare tyPtr l14 0 (vptr b p))) (sym (place-is 12 o 4)) refl $
+          (init ! 21 refl (tt, tt)) $ rewrite ! 21 (λ (p : ℕ). ‵ (fat fullShare tyPtr l14 0 (vptr b p))) (sym (place-is 12 o 4)) refl $
           assigns ! (of-opd ! (load ! (from ! (stop !)) (look ! 43 refl))) (from ! (hop ! (look ! 21 refl) (stop !)))
           (store-raw ! 1 refl (LL.lawful T.the-type T′.the-laws 𝓤 H A W .typed r4 _ (its-own r4 v4 is4) .0)) $ drop ! $
           owned ! T.the-row (Is T.the-row) ((LL.makes T.the-type T′.the-plain) 𝓤 H A) r4 _ (its-own r4 v4 is4) $ move ! (1 ∷ 0 ∷ []) $
@@ -310,8 +300,7 @@ module _ {M : Type 1} (𝓤 : URA M) (H : Heap 𝓤) (A : Atoms 𝓤) (W : Given
           elem-out ! T.the-row (Is T.the-row) (shows 𝓤 H A T.the-row) (LL.vals T.the-type T′.the-laws) (LL.tells T.the-type T′.the-laws)
           fullShare (entered l 5 ys) 5 noFlight b o (within 5 (lit< tt)) (λ was5.
           assigns ! (bin ! (load ! (from ! (fld ! refl (stop !))) (look-in ! 47 (sub ! 0 refl (whole !)))) (lit ! tt) tt) (from ! (stop !))
-          (init ! 19 refl (tt, tt)) $
-          rewrite ! 19 (λ (p : ℕ). ‵ (fat fullShare tyPtr l15 0 (vptr b p))) (sym (place-is 12 o 5)) refl $
+          (init ! 19 refl (tt, tt)) $ rewrite ! 19 (λ (p : ℕ). ‵ (fat fullShare tyPtr l15 0 (vptr b p))) (sym (place-is 12 o 5)) refl $
           assigns ! (of-opd ! (load ! (from ! (hop ! (look ! 19 refl) (stop !))) (look-raw ! 0 refl))) (from ! (stop !))
           (store ! 39 refl (LL.lawful T.the-type T′.the-laws 𝓤 H A W .typed (old 5) _ was5 .0)) $
           assigns ! (of-opd ! (load ! (from ! (stop !)) (look ! 39 refl))) (from ! (stop !))
@@ -328,8 +317,7 @@ module _ {M : Type 1} (𝓤 : URA M) (H : Heap 𝓤) (A : Atoms 𝓤) (W : Given
           land ! (from ! (stop !)) (store ! 43 refl (LL.lawful T.the-type T′.the-laws 𝓤 H A W .typed r5 _ is5 .0)) $
           rewrite ! 43 (λ (u : Val). ‵ (fat fullShare T′.mir l3 0 u)) (ap only (LL.tells T.the-type T′.the-laws r5 (v5 ∷ []) is5)) refl $
           assigns ! (bin ! (load ! (from ! (fld ! refl (stop !))) (look-in ! 47 (sub ! 0 refl (whole !)))) (lit ! tt) tt) (from ! (stop !))
-          (init ! 17 refl (tt, tt)) $
-          rewrite ! 17 (λ (p : ℕ). ‵ (fat fullShare tyPtr l16 0 (vptr b p))) (sym (place-is 12 o 5)) refl $
+          (init ! 17 refl (tt, tt)) $ rewrite ! 17 (λ (p : ℕ). ‵ (fat fullShare tyPtr l16 0 (vptr b p))) (sym (place-is 12 o 5)) refl $
           assigns ! (of-opd ! (load ! (from ! (stop !)) (look ! 43 refl))) (from ! (hop ! (look ! 17 refl) (stop !)))
           (store-raw ! 1 refl (LL.lawful T.the-type T′.the-laws 𝓤 H A W .typed r5 _ (its-own r5 v5 is5) .0)) $ drop ! $
           owned ! T.the-row (Is T.the-row) ((LL.makes T.the-type T′.the-plain) 𝓤 H A) r5 _ (its-own r5 v5 is5) $ move ! (1 ∷ 0 ∷ []) $
@@ -339,8 +327,7 @@ module _ {M : Type 1} (𝓤 : URA M) (H : Heap 𝓤) (A : Atoms 𝓤) (W : Given
           elem-out ! T.the-row (Is T.the-row) (shows 𝓤 H A T.the-row) (LL.vals T.the-type T′.the-laws) (LL.tells T.the-type T′.the-laws)
           fullShare (entered l 6 ys) 6 noFlight b o (within 6 (lit< tt)) (λ was6.
           assigns ! (bin ! (load ! (from ! (fld ! refl (stop !))) (look-in ! 47 (sub ! 0 refl (whole !)))) (lit ! tt) tt) (from ! (stop !))
-          (init ! 15 refl (tt, tt)) $
-          rewrite ! 15 (λ (p : ℕ). ‵ (fat fullShare tyPtr l17 0 (vptr b p))) (sym (place-is 12 o 6)) refl $
+          (init ! 15 refl (tt, tt)) $ rewrite ! 15 (λ (p : ℕ). ‵ (fat fullShare tyPtr l17 0 (vptr b p))) (sym (place-is 12 o 6)) refl $
           assigns ! (of-opd ! (load ! (from ! (hop ! (look ! 15 refl) (stop !))) (look-raw ! 0 refl))) (from ! (stop !))
           (store ! 39 refl (LL.lawful T.the-type T′.the-laws 𝓤 H A W .typed (old 6) _ was6 .0)) $
           assigns ! (of-opd ! (load ! (from ! (stop !)) (look ! 39 refl))) (from ! (stop !))
@@ -357,8 +344,7 @@ module _ {M : Type 1} (𝓤 : URA M) (H : Heap 𝓤) (A : Atoms 𝓤) (W : Given
           land ! (from ! (stop !)) (store ! 43 refl (LL.lawful T.the-type T′.the-laws 𝓤 H A W .typed r6 _ is6 .0)) $
           rewrite ! 43 (λ (u : Val). ‵ (fat fullShare T′.mir l3 0 u)) (ap only (LL.tells T.the-type T′.the-laws r6 (v6 ∷ []) is6)) refl $
           assigns ! (bin ! (load ! (from ! (fld ! refl (stop !))) (look-in ! 47 (sub ! 0 refl (whole !)))) (lit ! tt) tt) (from ! (stop !))
-          (init ! 13 refl (tt, tt)) $
-          rewrite ! 13 (λ (p : ℕ). ‵ (fat fullShare tyPtr l18 0 (vptr b p))) (sym (place-is 12 o 6)) refl $
+          (init ! 13 refl (tt, tt)) $ rewrite ! 13 (λ (p : ℕ). ‵ (fat fullShare tyPtr l18 0 (vptr b p))) (sym (place-is 12 o 6)) refl $
           assigns ! (of-opd ! (load ! (from ! (stop !)) (look ! 43 refl))) (from ! (hop ! (look ! 13 refl) (stop !)))
           (store-raw ! 1 refl (LL.lawful T.the-type T′.the-laws 𝓤 H A W .typed r6 _ (its-own r6 v6 is6) .0)) $ drop ! $
           owned ! T.the-row (Is T.the-row) ((LL.makes T.the-type T′.the-plain) 𝓤 H A) r6 _ (its-own r6 v6 is6) $ move ! (1 ∷ 0 ∷ []) $
@@ -368,8 +354,7 @@ module _ {M : Type 1} (𝓤 : URA M) (H : Heap 𝓤) (A : Atoms 𝓤) (W : Given
           elem-out ! T.the-row (Is T.the-row) (shows 𝓤 H A T.the-row) (LL.vals T.the-type T′.the-laws) (LL.tells T.the-type T′.the-laws)
           fullShare (entered l 7 ys) 7 noFlight b o (within 7 (lit< tt)) (λ was7.
           assigns ! (bin ! (load ! (from ! (fld ! refl (stop !))) (look-in ! 47 (sub ! 0 refl (whole !)))) (lit ! tt) tt) (from ! (stop !))
-          (init ! 11 refl (tt, tt)) $
-          rewrite ! 11 (λ (p : ℕ). ‵ (fat fullShare tyPtr l19 0 (vptr b p))) (sym (place-is 12 o 7)) refl $
+          (init ! 11 refl (tt, tt)) $ rewrite ! 11 (λ (p : ℕ). ‵ (fat fullShare tyPtr l19 0 (vptr b p))) (sym (place-is 12 o 7)) refl $
           assigns ! (of-opd ! (load ! (from ! (hop ! (look ! 11 refl) (stop !))) (look-raw ! 0 refl))) (from ! (stop !))
           (store ! 39 refl (LL.lawful T.the-type T′.the-laws 𝓤 H A W .typed (old 7) _ was7 .0)) $
           assigns ! (of-opd ! (load ! (from ! (stop !)) (look ! 39 refl))) (from ! (stop !))
@@ -386,8 +371,7 @@ module _ {M : Type 1} (𝓤 : URA M) (H : Heap 𝓤) (A : Atoms 𝓤) (W : Given
           land ! (from ! (stop !)) (store ! 43 refl (LL.lawful T.the-type T′.the-laws 𝓤 H A W .typed r7 _ is7 .0)) $
           rewrite ! 43 (λ (u : Val). ‵ (fat fullShare T′.mir l3 0 u)) (ap only (LL.tells T.the-type T′.the-laws r7 (v7 ∷ []) is7)) refl $
           assigns ! (bin ! (load ! (from ! (fld ! refl (stop !))) (look-in ! 47 (sub ! 0 refl (whole !)))) (lit ! tt) tt) (from ! (stop !))
-          (init ! 9 refl (tt, tt)) $
-          rewrite ! 9 (λ (p : ℕ). ‵ (fat fullShare tyPtr l20 0 (vptr b p))) (sym (place-is 12 o 7)) refl $
+          (init ! 9 refl (tt, tt)) $ rewrite ! 9 (λ (p : ℕ). ‵ (fat fullShare tyPtr l20 0 (vptr b p))) (sym (place-is 12 o 7)) refl $
           assigns ! (of-opd ! (load ! (from ! (stop !)) (look ! 43 refl))) (from ! (hop ! (look ! 9 refl) (stop !)))
           (store-raw ! 1 refl (LL.lawful T.the-type T′.the-laws 𝓤 H A W .typed r7 _ (its-own r7 v7 is7) .0)) $ drop ! $
           owned ! T.the-row (Is T.the-row) ((LL.makes T.the-type T′.the-plain) 𝓤 H A) r7 _ (its-own r7 v7 is7) $ move ! (1 ∷ 0 ∷ []) $
