@@ -1,12 +1,19 @@
 // The unsynced list in a lent row of eight flight entries: what log_sync answers by value is written to the caller's own row, and the
 // entries beyond the count stay. A row that isn't eight long and a count above eight are refused 17, and then the row stays whole.
-// `fill_row` and `put_row` are proved by a walk of their code, since a slice of structs is lent; walk.py writes that of `put_row`.
+// A caller that holds its row by value calls `filled_row`, and needs no proof by hand. `filled_row`, `fill_row` and `put_row` are proved by
+// a walk of their code, since a slice of structs is lent; walk.py writes that of `put_row`.
 use log_search::StoredFlight;
 use log_sync::Unsynced;
 ghost use mathlib.Core.Path.{_≡_};
 ghost use Prim.Native.Nat.{_<_, _≤_};
 ghost use lib.ListN.{length};
-ghost use Rattle.rows.specs.Row.{entryAt, rowNumber, filled, afterFill};
+ghost use Rattle.rows.specs.Row.{entryAt, rowNumber, filled, afterFill, filledRow};
+
+// A row held by value, and the number of the refusal that it got, 0 for none.
+pub struct FilledRow {
+    pub refused: u8,
+    pub row: [StoredFlight; 8],
+}
 
 // Entry i of a row that a list goes into: the list's own below the count, the old one from there on.
 fn entry(list: Unsynced, i: usize, old: StoredFlight) -> StoredFlight
@@ -74,4 +81,19 @@ pub fn fill_row(row: &mut [StoredFlight], list: Unsynced) -> u8
     }
     put_row(row, list);
     0
+}
+
+fn row_told(refused: u8, row: [StoredFlight; 8]) -> FilledRow
+    ensures { λ r. ⌜ r ≡ filledRow refused row ⌝ }
+{
+    FilledRow { refused, row }
+}
+
+// `fill_row` for a caller that holds its row by value: the row is lent, and handed back.
+pub fn filled_row(row: [StoredFlight; 8], list: Unsynced) -> FilledRow
+    ensures { λ r. ⌜ r ≡ filledRow (rowNumber 8 (list .count)) (afterFill list row) ⌝ }
+{
+    let mut held = row;
+    let refused = fill_row(&mut held, list);
+    row_told(refused, held)
 }
