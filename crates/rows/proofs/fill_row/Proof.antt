@@ -144,8 +144,8 @@ module _ {M : Type 1} (𝓤 : URA M) (H : Heap 𝓤) (A : Atoms 𝓤) (W : Given
         → ent 𝓤 (sep 𝓤 (A .lft (ν ∷ []) fullShare) (sem 𝓤 H A (MutSlice (named 0) (ν ∷ []) T.the-row .own (xs δ ys) (s ∷ []))))
         (Put 𝓤 H A at-mem run .pre (to-put ν δ))
     goes-put ν δ asked =
-        qed W (‵ (flft (ν ∷ []) fullShare) ∷ ‵ (MutSlice (named 0) (ν ∷ []) T.the-row .own (xs δ ys) (s ∷ [])) ∷ []) ∵
-        says ! asked $ nothing ! $ move ! (1 ∷ 0 ∷ []) $ join ! $ frame ! $ nothing ! $
+        qed W (‵ (flft (ν ∷ []) fullShare) ∷ ‵ (MutSlice (named 0) (ν ∷ []) T.the-row .own (xs δ ys) (s ∷ [])) ∷ []) ∵ says ! asked $
+        nothing ! $ move ! (1 ∷ 0 ∷ []) $ join ! $ frame ! $ nothing ! $
         owned ! L.the-row (Is L.the-row) ((LL.makes L.the-type L′.the-plain) 𝓤 H A) l _ gl $ fjoin ! $ move ! (1 ∷ 0 ∷ []) $ fjoin ! $
         done !
 
@@ -159,66 +159,59 @@ module _ {M : Type 1} (𝓤 : URA M) (H : Heap 𝓤) (A : Atoms 𝓤) (W : Given
 
       walk : ent 𝓤 (onEntry 𝓤 H A f.signature (κ, tt) (q, tt) x at) (WpFn 𝓤 H C Λ code.function (s ∷ machL l ∷ []) Post)
       walk =
-          qed W ((‵ (flft κ q) ⊛ ‵ ftrue) ∷ ‵ (owns (MutSlice (named 0) κ T.the-row ∷ L.the-row ∷ []) x at) ∷ []) ∵
-          split ! $ move ! (2 ∷ []) $ fsplit ! $
+          qed W ((‵ (flft κ q) ⊛ ‵ ftrue) ∷ ‵ (owns (MutSlice (named 0) κ T.the-row ∷ L.the-row ∷ []) x at) ∷ []) ∵ split ! $
+          move ! (2 ∷ []) $ fsplit ! $
           -- [the row's own; the list's; the token; true]
-          enter ! C Λ code.function (s ∷ machL l ∷ []) _ $
-          alloc1 ! (λ l₀. alloc1 ! (λ l₁. alloc1 ! (λ l₂. alloc1 ! (λ l₃. alloc1 ! (λ l₄. alloc1 ! (λ l₅. alloc1 ! (λ l₆. alloc1 ! (λ l₇.
-          alloc1 ! (λ l₈. alloc0 ! $ params1 ! $ pass1 ! (init ! 14 refl (tt, (tt, (record { fits = room .0 }, tt)))) $
+          enter ! C Λ code.function (s ∷ machL l ∷ []) _ $ alloc1 ! (λ l₀. alloc1 ! (λ l₁. alloc1 ! (λ l₂. alloc1 ! (λ l₃. alloc1 ! (λ l₄.
+          alloc1 ! (λ l₅. alloc1 ! (λ l₆. alloc1 ! (λ l₇. alloc1 ! (λ l₈. alloc0 ! $ params1 ! $
+          pass1 ! (init ! 14 refl (tt, (tt, (record { fits = room .0 }, tt)))) $
           pass1 ! (init ! 12 refl (LL.lawful L.the-type L′.the-laws 𝓤 H A W .typed l _ gl .0)) $ pass0 ! $
           -- [_8; …; _7; …; _6; …; _5; …; _4; …; _3; …; _2; …; _1; …; room for _0; …; the row's own; the list's; the token; true]
           assigns ! (of-opd ! (load ! (from ! (fld ! refl (stop !))) (look-in ! 14 (sub ! 1 refl (whole !))))) (from ! (stop !))
           (init ! 8 refl (tt, record { fits = room .0 })) $
           owned ! usize (Is usize) (uint-makes 𝓤 H A W w64) (length ys) _ (refl, room .0) $
           use1 W (raw (Number 𝓤 H A at-mem run .pre to-number)) goes-number $
-          calls-at ! fm (Number 𝓤 H A at-mem run) number to-number (and-then ! (load ! (from ! (stop !)) (look ! 9 refl))
+          calls-at ! fm (Number 𝓤 H A at-mem run) number to-number
+          (and-then ! (load ! (from ! (stop !)) (look ! 9 refl))
           (and-then ! (load ! (from ! (fld ! refl (stop !))) (look-in ! 13 (sub ! 2 refl (whole !)))) (no-more !))) (λ v.
-          use1 W (later (some (λ (r : ℕ). (‵ ftrue ⊛ ‵ (u8 .own r (v ∷ [])))
-          ⊛ raw (ensured 𝓤 H A n.ended (n.clauses 𝓤 H A at-mem run) tt (length ys, (l .count, tt)) tt r)))) (id⊢ 𝓤 _) $ await ! tt $
+          use1 W (later (some (λ (r : ℕ). (‵ ftrue ⊛ ‵ (u8 .own r (v ∷ []))) ⊛ raw
+          (ensured 𝓤 H A n.ended (n.clauses 𝓤 H A at-mem run) tt (length ys, (l .count, tt)) tt r)))) (id⊢ 𝓤 _) $ await ! tt $
           pick ! (λ r. split ! $ move ! (1 ∷ []) $
           use1 W (raw (fact 𝓤 (r ≡ rowNumber (length ys) (l .count)))) (numbered 𝓤 H A at-mem run (length ys) (l .count) r) $
           heard ! (r ≡ rowNumber (length ys) (l .count)) (λ e. split ! $ drop ! $ peeks ! u8 (Is u8) (shows 𝓤 H A u8) r (v ∷ []) (λ is.
           land ! (from ! (stop !)) (init ! 11 refl (uint-lawful 𝓤 H A W w8 .typed r _ is .0)) $
           rewrite ! 11 (λ (u : Val). ‵ (fat fullShare (tyInt w8) l₃ 0 u)) (ap only (uint-tells w8 r (v ∷ []) is)) refl $ drop ! $
           assigns ! (bin ! (load ! (from ! (stop !)) (look ! 10 refl)) (lit ! tt) tt) (from ! (stop !)) (init ! 6 refl (tt, tt)) $
-          first ! $ branches ! (load ! (from ! (stop !)) (look ! 6 refl))
-          (λ other. assigns ! (of-opd ! (load ! (from ! (stop !)) (look ! 10 refl))) (from ! (stop !))
-          (init ! 16 refl (tt, record { fits = is .1 })) $ returns-within ! Post refl (look ! 16 refl) $
-          forget ! 6 refl $ forget ! 8 refl $ forget ! 10 refl $ forget ! 12 refl $ forget ! 14 refl $ forget ! 16 refl $
-          move ! (16 ∷ 17 ∷ []) $ free1 ! $ move ! (14 ∷ 15 ∷ []) $ free1 ! $ move ! (12 ∷ 13 ∷ []) $ free1 ! $ move ! (10 ∷ 11 ∷ []) $
-          free1 ! $
-          move ! (8 ∷ 9 ∷ []) $ free1 ! $ move ! (6 ∷ 7 ∷ []) $ free1 ! $ move ! (4 ∷ 5 ∷ []) $ free1 ! $ move ! (2 ∷ 3 ∷ []) $ free1 ! $
-          free1 ! $ free0 ! $ keep ! (0 ∷ 2 ∷ []) $ by ! (exits r ys (is .1) (e, left-by l ys r false e (no-then (eqb r 0) other)) refl))
-          (λ zero. skips ! $ exec ! C Λ (En l₀ l₁ l₂ l₃ l₄ l₅ l₆ l₇ l₈) mir.t-5 (atRet (En l₀ l₁ l₂ l₃ l₄ l₅ l₆ l₇ l₈) Post) $
+          first ! $ branches ! (load ! (from ! (stop !)) (look ! 6 refl)) (λ other.
+          assigns ! (of-opd ! (load ! (from ! (stop !)) (look ! 10 refl))) (from ! (stop !))
+          (init ! 16 refl (tt, record { fits = is .1 })) $ returns-within ! Post refl (look ! 16 refl) $ forget ! 6 refl $
+          forget ! 8 refl $ forget ! 10 refl $ forget ! 12 refl $ forget ! 14 refl $ forget ! 16 refl $ move ! (16 ∷ 17 ∷ []) $ free1 ! $
+          move ! (14 ∷ 15 ∷ []) $ free1 ! $ move ! (12 ∷ 13 ∷ []) $ free1 ! $ move ! (10 ∷ 11 ∷ []) $ free1 ! $ move ! (8 ∷ 9 ∷ []) $
+          free1 ! $ move ! (6 ∷ 7 ∷ []) $ free1 ! $ move ! (4 ∷ 5 ∷ []) $ free1 ! $ move ! (2 ∷ 3 ∷ []) $ free1 ! $ free1 ! $ free0 ! $
+          keep ! (0 ∷ 2 ∷ []) $ by ! (exits r ys (is .1) (e, left-by l ys r false e (no-then (eqb r 0) other)) refl)) (λ zero. skips ! $
+          exec ! C Λ (En l₀ l₁ l₂ l₃ l₄ l₅ l₆ l₇ l₈) mir.t-5 (atRet (En l₀ l₁ l₂ l₃ l₄ l₅ l₆ l₇ l₈) Post) $
           assigns ! (addr ! (from ! (fld ! refl (hop ! (look-in ! 14 (sub ! 0 refl (whole !))) (stop !))))) (from ! (stop !))
           (init ! 2 refl (tt, tt)) $
-          assigns ! (agg ! (and-then ! (load ! (from ! (stop !)) (look ! 2 refl)) (and-then ! (load ! (from ! (fld ! refl (stop !)))
-          (look-in ! 14 (sub ! 1 refl (whole !)))) (no-more !)))) (from ! (stop !)) (init ! 0 refl (
-            tt,
-            (
-              tt,
-              (
-                record { fits = room .0 },
-                tt,
-              ),
-            ),
-          )) $
+          assigns ! (agg ! (and-then ! (load ! (from ! (stop !)) (look ! 2 refl))
+          (and-then ! (load ! (from ! (fld ! refl (stop !))) (look-in ! 14 (sub ! 1 refl (whole !)))) (no-more !)))) (from ! (stop !))
+          (init ! 0 refl (tt, (tt, (record { fits = room .0 }, tt)))) $
           -- the row is lent again for a lifetime ν of the call
           lft-new ! tt (λ ν. move ! (19 ∷ 21 ∷ []) $
-          use2 W (later (some (λ (δ : GName). ‵ (MutSlice (named 0) (ν ∷ []) T.the-row .own (xs δ ys) (s ∷ []))
-          ⊛ ‵ (LentAgain T.the-row κ (ν ∷ []) q γ b o δ ys))))
-          (lends-again T.the-row κ (ν ∷ []) q γ b o 𝓤 H A W (named 0) (named 0) ys) $ await ! tt $ pick ! (λ δ. split ! $
-          move ! (2 ∷ 0 ∷ []) $ use2 W (raw (Put 𝓤 H A at-mem run .pre (to-put ν δ)))
+          use2 W (later (some (λ (δ : GName). ‵ (MutSlice (named 0) (ν ∷ []) T.the-row .own (xs δ ys) (s ∷ [])) ⊛ ‵
+          (LentAgain T.the-row κ (ν ∷ []) q γ b o δ ys)))) (lends-again T.the-row κ (ν ∷ []) q γ b o 𝓤 H A W (named 0) (named 0) ys) $
+          await ! tt $ pick ! (λ δ. split ! $ move ! (2 ∷ 0 ∷ []) $
+          use2 W (raw (Put 𝓤 H A at-mem run .pre (to-put ν δ)))
           (goes-put ν δ (accepted (length ys) (l .count) (sym e ∙ eqb-true r 0 (yes-then (eqb r 0) zero)))) $
-          calls-at ! fm (Put 𝓤 H A at-mem run) put (to-put ν δ) (and-then ! (load ! (from ! (stop !)) (look ! 2 refl))
-          (and-then ! (load ! (from ! (stop !)) (look ! 14 refl)) (no-more !))) (λ w.
-          use1 W (later (some (λ (u : Unit {0}). ((‵ (flft (ν ∷ []) fullShare) ⊛ ‵ ftrue) ⊛ ‵ (Nothing .own u (w ∷ [])))
-          ⊛ raw (ensured 𝓤 H A g.ended (g.clauses 𝓤 H A at-mem run) (ν ∷ [], tt) (xs δ ys, (l, tt)) tt u)))) (id⊢ 𝓤 _) $ await ! tt $
+          calls-at ! fm (Put 𝓤 H A at-mem run) put (to-put ν δ)
+          (and-then ! (load ! (from ! (stop !)) (look ! 2 refl)) (and-then ! (load ! (from ! (stop !)) (look ! 14 refl)) (no-more !)))
+          (λ w.
+          use1 W (later (some (λ (u : Unit {0}). ((‵ (flft (ν ∷ []) fullShare) ⊛ ‵ ftrue) ⊛ ‵ (Nothing .own u (w ∷ []))) ⊛ raw
+          (ensured 𝓤 H A g.ended (g.clauses 𝓤 H A at-mem run) (ν ∷ [], tt) (xs δ ys, (l, tt)) tt u)))) (id⊢ 𝓤 _) $ await ! tt $
           pick ! (λ u. split ! $ move ! (1 ∷ []) $
-          use1 W (some (λ (zs : List StoredFlight × (Unit {0} × Unit {0})). ‵ (lasts g.ended (ν ∷ [], tt) (xs δ ys, (l, tt)) zs)
-          ⊛ raw (fact 𝓤 (zs .0 ≡ filled l ys)))) (id⊢ 𝓤 _) $ pick ! (λ zs. split ! $ move ! (1 ∷ []) $
-          heard ! (zs .0 ≡ filled l ys) (λ d. fsplit ! $ fsplit ! $ move ! (1 ∷ []) $ feqL ! (λ len. move ! (2 ∷ []) $ split ! $
-          move ! (1 ∷ []) $ peeks ! Nothing (Is Nothing) (shows 𝓤 H A Nothing) u (w ∷ []) (λ isn.
+          use1 W (some (λ (zs : List StoredFlight × (Unit {0} × Unit {0})). ‵ (lasts g.ended (ν ∷ [], tt) (xs δ ys, (l, tt)) zs) ⊛ raw
+          (fact 𝓤 (zs .0 ≡ filled l ys)))) (id⊢ 𝓤 _) $ pick ! (λ zs. split ! $ move ! (1 ∷ []) $ heard ! (zs .0 ≡ filled l ys) (λ d.
+          fsplit ! $ fsplit ! $ move ! (1 ∷ []) $ feqL ! (λ len. move ! (2 ∷ []) $ split ! $ move ! (1 ∷ []) $
+          peeks ! Nothing (Is Nothing) (shows 𝓤 H A Nothing) u (w ∷ []) (λ isn.
           land ! (from ! (stop !)) (init ! 9 refl (nothing-lawful 𝓤 H A W .typed u _ isn .0)) $
           -- the lifetime is ended, and the row comes back filled
           move ! (1 ∷ []) $ split ! $ lft-end ! tt $ move ! (0 ∷ 5 ∷ 3 ∷ []) $
@@ -226,15 +219,14 @@ module _ {M : Type 1} (𝓤 : URA M) (H : Heap 𝓤) (A : Atoms 𝓤) (W : Given
           (comes-back T.the-row κ (ν ∷ []) q γ b o 𝓤 H A W (named 0) (named 0) ys δ (zs .0) room len) $ await ! tt $ split ! $
           assigns ! (of-opd ! (lit ! tt)) (from ! (stop !)) (init ! 21 refl (tt, record { fits = lit< tt })) $
           returns ! (look ! 21 refl) $ forget ! 5 refl $ forget ! 7 refl $ forget ! 9 refl $ forget ! 11 refl $ forget ! 13 refl $
-          forget ! 15 refl $ forget ! 17 refl $ forget ! 19 refl $ forget ! 21 refl $
-          move ! (21 ∷ 22 ∷ []) $ free1 ! $ move ! (19 ∷ 20 ∷ []) $ free1 ! $ move ! (17 ∷ 18 ∷ []) $ free1 ! $ move ! (15 ∷ 16 ∷ []) $
-          free1 ! $
-          move ! (13 ∷ 14 ∷ []) $ free1 ! $ move ! (11 ∷ 12 ∷ []) $ free1 ! $ move ! (9 ∷ 10 ∷ []) $ free1 ! $ move ! (7 ∷ 8 ∷ []) $
-          free1 ! $
+          forget ! 15 refl $ forget ! 17 refl $ forget ! 19 refl $ forget ! 21 refl $ move ! (21 ∷ 22 ∷ []) $ free1 ! $
+          move ! (19 ∷ 20 ∷ []) $ free1 ! $ move ! (17 ∷ 18 ∷ []) $ free1 ! $ move ! (15 ∷ 16 ∷ []) $ free1 ! $ move ! (13 ∷ 14 ∷ []) $
+          free1 ! $ move ! (11 ∷ 12 ∷ []) $ free1 ! $ move ! (9 ∷ 10 ∷ []) $ free1 ! $ move ! (7 ∷ 8 ∷ []) $ free1 ! $
           move ! (5 ∷ 6 ∷ []) $ free1 ! $ free0 ! $ keep ! (0 ∷ 1 ∷ []) $
           by ! (exits 0 (zs .0) (lit< tt) (
             sym (eqb-true r 0 (yes-then (eqb r 0) zero)) ∙ e,
-            d ∙ left-by l ys r true e (yes-then (eqb r 0) zero),
+            d ∙ left-by l ys r true e
+                (yes-then (eqb r 0) zero),
           ) len)))))))))))))))))))))))
 
 module _ {M : Type 1} (𝓤 : URA M) (H : Heap 𝓤) (A : Atoms 𝓤) (W : Given 𝓤 H A) (at-mem : Memory → SProp 𝓤) (run : Routine → Fun 𝓤) where

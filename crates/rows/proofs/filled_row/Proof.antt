@@ -104,25 +104,23 @@ module _ {M : Type 1} (𝓤 : URA M) (H : Heap 𝓤) (A : Atoms 𝓤) (W : Given
   unfolding partOf
   laid l ys =
       qed W (‵ (fat fullShare (tyArray T′.mir 8) l 0 (only (machR ys))) ∷ ‵ (Array T.the-row 8 .own ys (machR ys)) ∷ []) ∵
-      use1 W (‵ (cellAt fullShare (Array T.the-row 8 .mir) (machR ys) l 0)) (W .laws .at-raw fullShare (tyArray T′.mir 8) l 0 (only (machR
-      ys))) $
-      fjoin ! $ fpack ! (List Val) (λ vs. fsep (cellAt fullShare (Array T.the-row 8 .mir) vs l 0) (Array T.the-row 8 .own ys vs)) (machR
-      ys) $
-      use1 W (‵ (arr-parts (shares T.the-row) 8 .part fullShare ys l 0)) (array-apart 𝓤 H A W T.the-row fullShare tt 8 ys l 0) $ fsplit ! $
-      drop ! $ use1 W (‵ (cells (mem T.the-row) ys l 0)) (whole-in 𝓤 H A W T.the-row ys l 0) $ done !
+      use1 W (‵ (cellAt fullShare (Array T.the-row 8 .mir) (machR ys) l 0))
+      (W .laws .at-raw fullShare (tyArray T′.mir 8) l 0 (only (machR ys))) $ fjoin ! $ fpack ! (List Val) (λ vs.
+      fsep (cellAt fullShare (Array T.the-row 8 .mir) vs l 0) (Array T.the-row 8 .own ys vs)) (machR ys) $
+      use1 W (‵ (arr-parts (shares T.the-row) 8 .part fullShare ys l 0)) (array-apart 𝓤 H A W T.the-row fullShare tt 8 ys l 0) $
+      fsplit ! $ drop ! $ use1 W (‵ (cells (mem T.the-row) ys l 0)) (whole-in 𝓤 H A W T.the-row ys l 0) $ done !
 
   returned : (l : ℕ) (zs : List StoredFlight) → ent 𝓤 (sem 𝓤 H A (Arr (mem T.the-row) 8 .lies zs l 0)) (local l zs)
   unfolding partOf
   returned l zs =
       qed W (‵ (Arr (mem T.the-row) 8 .lies zs l 0) ∷ []) ∵ fsplit ! $ move ! (1 ∷ []) $
       use1 W (‵ (row T.the-row fullShare zs l 0)) (whole-out 𝓤 H A W T.the-row zs l 0) $ move ! (1 ∷ 0 ∷ []) $ fjoin ! $
-      use1 W (‵ (partAt (Array T.the-row 8) fullShare zs l 0)) (array-whole 𝓤 H A W T.the-row fullShare 8 zs l 0) $
-      fpick ! (λ vs. fsplit ! $
+      use1 W (‵ (partAt (Array T.the-row 8) fullShare zs l 0)) (array-whole 𝓤 H A W T.the-row fullShare 8 zs l 0) $ fpick ! (λ vs.
+      fsplit ! $
       spelt ! (Array T.the-row 8) (Is (Array T.the-row 8)) (shows 𝓤 H A (Array T.the-row 8)) machR
       (array-tells T.the-row (LL.vals T.the-type T′.the-laws) (LL.tells T.the-type T′.the-laws) 8) fullShare zs vs l 0 $
-      use1 W (‵ (fat fullShare (tyArray T′.mir 8) l 0 (only (machR zs)))) (W .laws .raw-at fullShare (tyArray T′.mir 8) l 0 (only (machR
-      zs))) $
-      frame ! $ done !)
+      use1 W (‵ (fat fullShare (tyArray T′.mir 8) l 0 (only (machR zs))))
+      (W .laws .raw-at fullShare (tyArray T′.mir 8) l 0 (only (machR zs))) $ frame ! $ done !)
 
 module _ {M : Type 1} (𝓤 : URA M) (H : Heap 𝓤) (A : Atoms 𝓤) (W : Given 𝓤 H A) (at-mem : Memory → SProp 𝓤) (run : Routine → Fun 𝓤)
     (ys : List StoredFlight) (l : Unsynced) where
@@ -158,9 +156,9 @@ module _ {M : Type 1} (𝓤 : URA M) (H : Heap 𝓤) (A : Atoms 𝓤) (W : Given
         → ent 𝓤 (sep 𝓤 (A .lft (ν ∷ []) fullShare) (sem 𝓤 H A (MutSlice (named 0) (ν ∷ []) T.the-row .own (xs b δ) (s b ∷ []))))
         (Fill 𝓤 H A at-mem run .pre (to-fill b ν δ))
     goes-fill b ν δ =
-        qed W (‵ (flft (ν ∷ []) fullShare) ∷ ‵ (MutSlice (named 0) (ν ∷ []) T.the-row .own (xs b δ) (s b ∷ [])) ∷ []) ∵
-        nothing ! $ owned ! L.the-row (Is L.the-row) ((LL.makes L.the-type L′.the-plain) 𝓤 H A) l _ gl $ fjoin ! $ move ! (2 ∷ 0 ∷ []) $
-        fjoin ! $ nothing ! $ move ! (2 ∷ 0 ∷ []) $ join ! $ join ! $ frame ! $ done !
+        qed W (‵ (flft (ν ∷ []) fullShare) ∷ ‵ (MutSlice (named 0) (ν ∷ []) T.the-row .own (xs b δ) (s b ∷ [])) ∷ []) ∵ nothing ! $
+        owned ! L.the-row (Is L.the-row) ((LL.makes L.the-type L′.the-plain) 𝓤 H A) l _ gl $ fjoin ! $ move ! (2 ∷ 0 ∷ []) $ fjoin ! $
+        nothing ! $ move ! (2 ∷ 0 ∷ []) $ join ! $ join ! $ frame ! $ done !
 
     abbrev to-told : ℕ → List StoredFlight → Told 𝓤 H A at-mem run .Ghost
     to-told r zs = ((tt, tt, tt, (r, (zs, tt)), (vint w8 r ∷ [], (machR zs, tt))), tt)
@@ -175,28 +173,22 @@ module _ {M : Type 1} (𝓤 : URA M) (H : Heap 𝓤) (A : Atoms 𝓤) (W : Given
         → ent 𝓤 (sem 𝓤 H A (F.the-row .own p (v ∷ []))) (Post v)
     exits r zs p v said e =
         qed W (‵ (F.the-row .own p (v ∷ [])) ∷ []) ∵
-        suffices ! _ (ends-at 𝓤 H A f.ended stayed (f.clauses 𝓤 H A at-mem run) W ((tt, tt, tt, x, at), tt) v p (tt, (tt, tt)) (
-          tt,
-          (
-            tt,
-            tt,
-          ),
-        )) $
-        says ! (e ∙ ap (λ (n : ℕ). filledRow n zs) (said .0 ∙ ap (λ (n : ℕ). rowNumber n (l .count)) eight)
-        ∙ ap (filledRow (rowNumber 8 (l .count))) (said .1)) $ nothing ! $ frame ! $ nothing ! $
+        suffices ! _ (ends-at 𝓤 H A f.ended stayed (f.clauses 𝓤 H A at-mem run) W ((tt, tt, tt, x, at), tt) v p (tt, (tt, tt))
+        (tt, (tt, tt))) $
+        says ! (e ∙ ap (λ (n : ℕ). filledRow n zs) (said .0 ∙ ap (λ (n : ℕ). rowNumber n (l .count)) eight) ∙ ap
+        (filledRow (rowNumber 8 (l .count))) (said .1)) $ nothing ! $ frame ! $ nothing ! $
         owned ! L.the-row (Is L.the-row) ((LL.makes L.the-type L′.the-plain) 𝓤 H A) l _ gl $ fjoin ! $
         owned ! (Array T.the-row 8) (Is (Array T.the-row 8)) (array-makes 𝓤 H A W T.the-row ((LL.makes T.the-type T′.the-plain) 𝓤 H A) 8)
-        ys _ gy $
-        fjoin ! $ done !
+        ys _ gy $ fjoin ! $ done !
 
     module _ (C : Calls 𝓤 H) (Λ : Loops 𝓤 H) (fm : FmC 𝓤 H (W .laws) C) (fills : Triple 𝓤 (C #rows·fill-row) (Fill 𝓤 H A at-mem run))
         (tells : Triple 𝓤 (C #rows·row-told) (Told 𝓤 H A at-mem run)) where
       walk : ent 𝓤 (onEntry 𝓤 H A f.signature tt tt x at) (WpFn 𝓤 H C Λ code.function passed Post)
       walk =
-          qed W (‵ ftrue ∷ ‵ (owns (Array T.the-row 8 ∷ L.the-row ∷ []) x at) ∷ []) ∵ enter ! C Λ code.function passed _ $
-          alloc1 ! (λ l₀. alloc1 ! (λ l₁. alloc1 ! (λ l₂. alloc1 ! (λ l₃. alloc1 ! (λ l₄. alloc1 ! (λ l₅. alloc1 ! (λ l₆. alloc1 ! (λ l₇.
-          alloc0 ! $ params1 ! $ pass1 ! (init ! 12 refl (array-lawful 𝓤 H A W T.the-row (LL.lawful T.the-type T′.the-laws 𝓤 H A W) 8
-          .typed ys _ gy .0)) $
+          qed W (‵ ftrue ∷ ‵ (owns (Array T.the-row 8 ∷ L.the-row ∷ []) x at) ∷ []) ∵ enter ! C Λ code.function passed _ $ alloc1 ! (λ l₀.
+          alloc1 ! (λ l₁. alloc1 ! (λ l₂. alloc1 ! (λ l₃. alloc1 ! (λ l₄. alloc1 ! (λ l₅. alloc1 ! (λ l₆. alloc1 ! (λ l₇. alloc0 ! $
+          params1 ! $
+          pass1 ! (init ! 12 refl (array-lawful 𝓤 H A W T.the-row (LL.lawful T.the-type T′.the-laws 𝓤 H A W) 8 .typed ys _ gy .0)) $
           pass1 ! (init ! 10 refl (LL.lawful L.the-type L′.the-laws 𝓤 H A W .typed l _ gl .0)) $ pass0 ! $
           -- [_7; …; _6; …; _5; …; _4; …; _3; …; _2; …; _1; …; room for _0; …; true; what is passed]
           assigns ! (of-opd ! (load ! (from ! (stop !)) (look ! 12 refl))) (from ! (stop !))
@@ -208,22 +200,23 @@ module _ {M : Type 1} (𝓤 : URA M) (H : Heap 𝓤) (A : Atoms 𝓤) (W : Given
           (sym eight) refl $
           -- the row is lent for a lifetime ν of the call
           lft-new ! tt (λ ν.
-          owned ! (Array T.the-row 8) (Is (Array T.the-row 8)) (array-makes 𝓤 H A W T.the-row ((LL.makes T.the-type T′.the-plain) 𝓤 H A)
-          8) ys _ gy $
-          move ! (10 ∷ 0 ∷ []) $ use2 W (‵ (cells (mem T.the-row) ys l₃ 0)) (laid 𝓤 H A W l₃ ys) $
-          use1 W (later (some (λ (δ : GName). ‵ (MutSlice (named 0) (ν ∷ []) T.the-row .own (xs l₃ δ) (s l₃ ∷ []))
-          ⊛ ‵ (flent (ν ∷ []) (Held T.the-row (length ys) l₃ 0 δ))))) (lends-slice 𝓤 H A W T.the-row (named 0) (ν ∷ []) ys l₃ 0 room) $
+          owned ! (Array T.the-row 8) (Is (Array T.the-row 8))
+          (array-makes 𝓤 H A W T.the-row ((LL.makes T.the-type T′.the-plain) 𝓤 H A) 8) ys _ gy $ move ! (10 ∷ 0 ∷ []) $
+          use2 W (‵ (cells (mem T.the-row) ys l₃ 0)) (laid 𝓤 H A W l₃ ys) $
+          use1 W (later (some (λ (δ : GName). ‵ (MutSlice (named 0) (ν ∷ []) T.the-row .own (xs l₃ δ) (s l₃ ∷ [])) ⊛ ‵
+          (flent (ν ∷ []) (Held T.the-row (length ys) l₃ 0 δ))))) (lends-slice 𝓤 H A W T.the-row (named 0) (ν ∷ []) ys l₃ 0 room) $
           await ! tt $ pick ! (λ δ. split ! $ move ! (2 ∷ 0 ∷ []) $
           use2 W (raw (Fill 𝓤 H A at-mem run .pre (to-fill l₃ ν δ))) (goes-fill l₃ ν δ) $
-          calls-at ! fm (Fill 𝓤 H A at-mem run) fills (to-fill l₃ ν δ) (and-then ! (load ! (from ! (stop !)) (look ! 4 refl))
-          (and-then ! (load ! (from ! (stop !)) (look ! 11 refl)) (no-more !))) (λ v.
-          use1 W (later (some (λ (r : ℕ). ((‵ (flft (ν ∷ []) fullShare) ⊛ ‵ ftrue) ⊛ ‵ (u8 .own r (v ∷ [])))
-          ⊛ raw (ensured 𝓤 H A g.ended (g.clauses 𝓤 H A at-mem run) (ν ∷ [], tt) (xs l₃ δ, (l, tt)) tt r)))) (id⊢ 𝓤 _) $ await ! tt $
+          calls-at ! fm (Fill 𝓤 H A at-mem run) fills (to-fill l₃ ν δ)
+          (and-then ! (load ! (from ! (stop !)) (look ! 4 refl)) (and-then ! (load ! (from ! (stop !)) (look ! 11 refl)) (no-more !)))
+          (λ v.
+          use1 W (later (some (λ (r : ℕ). ((‵ (flft (ν ∷ []) fullShare) ⊛ ‵ ftrue) ⊛ ‵ (u8 .own r (v ∷ []))) ⊛ raw
+          (ensured 𝓤 H A g.ended (g.clauses 𝓤 H A at-mem run) (ν ∷ [], tt) (xs l₃ δ, (l, tt)) tt r)))) (id⊢ 𝓤 _) $ await ! tt $
           pick ! (λ r. split ! $ move ! (1 ∷ []) $
-          use1 W (some (λ (zs : List StoredFlight × (Unit {0} × Unit {0})). ‵ (lasts g.ended (ν ∷ [], tt) (xs l₃ δ, (l, tt)) zs)
-          ⊛ raw (fact 𝓤 (Says r (zs .0))))) (id⊢ 𝓤 _) $ pick ! (λ zs. split ! $ move ! (1 ∷ []) $
-          heard ! (Says r (zs .0)) (λ said. fsplit ! $ fsplit ! $ move ! (1 ∷ []) $ feqL ! (λ len. move ! (2 ∷ []) $ split ! $
-          move ! (1 ∷ []) $ peeks ! u8 (Is u8) (shows 𝓤 H A u8) r (v ∷ []) (λ is.
+          use1 W (some (λ (zs : List StoredFlight × (Unit {0} × Unit {0})). ‵ (lasts g.ended (ν ∷ [], tt) (xs l₃ δ, (l, tt)) zs) ⊛ raw
+          (fact 𝓤 (Says r (zs .0))))) (id⊢ 𝓤 _) $ pick ! (λ zs. split ! $ move ! (1 ∷ []) $ heard ! (Says r (zs .0)) (λ said. fsplit ! $
+          fsplit ! $ move ! (1 ∷ []) $ feqL ! (λ len. move ! (2 ∷ []) $ split ! $ move ! (1 ∷ []) $
+          peeks ! u8 (Is u8) (shows 𝓤 H A u8) r (v ∷ []) (λ is.
           land ! (from ! (stop !)) (init ! 11 refl (uint-lawful 𝓤 H A W w8 .typed r _ is .0)) $
           rewrite ! 11 (λ (u : Val). ‵ (fat fullShare (tyInt w8) l₄ 0 u)) (ap only (uint-tells w8 r (v ∷ []) is)) refl $ drop ! $
           -- the lifetime is ended, and the row is the local's again
@@ -238,19 +231,19 @@ module _ {M : Type 1} (𝓤 : URA M) (H : Heap 𝓤) (A : Atoms 𝓤) (W : Given
           assigns ! (of-opd ! (load ! (from ! (stop !)) (look ! 1 refl))) (from ! (stop !))
           (init ! 4 refl (array-lawful 𝓤 H A W T.the-row (LL.lawful T.the-type T′.the-laws 𝓤 H A W) 8 .typed (zs .0) _ isz .0)) $
           use1 W (raw (Told 𝓤 H A at-mem run .pre (to-told r (zs .0)))) (goes-told r (zs .0) (is .1)) $
-          calls-at ! fm (Told 𝓤 H A at-mem run) tells (to-told r (zs .0)) (and-then ! (load ! (from ! (stop !)) (look ! 10 refl))
-          (and-then ! (load ! (from ! (stop !)) (look ! 4 refl)) (no-more !))) (λ v′.
-          use1 W (later (some (λ (p : FilledRow). (‵ ftrue ⊛ ‵ (F.the-row .own p (v′ ∷ [])))
-          ⊛ raw (ensured 𝓤 H A e.ended (e.clauses 𝓤 H A at-mem run) tt (r, (zs .0, tt)) tt p)))) (id⊢ 𝓤 _) $ await ! tt $
-          pick ! (λ p. split ! $ move ! (1 ∷ []) $ use1 W (raw (fact 𝓤 (p ≡ filledRow r (zs .0)))) (told 𝓤 H A at-mem run r (zs .0) p) $
+          calls-at ! fm (Told 𝓤 H A at-mem run) tells (to-told r (zs .0))
+          (and-then ! (load ! (from ! (stop !)) (look ! 10 refl)) (and-then ! (load ! (from ! (stop !)) (look ! 4 refl)) (no-more !)))
+          (λ v′.
+          use1 W (later (some (λ (p : FilledRow). (‵ ftrue ⊛ ‵ (F.the-row .own p (v′ ∷ []))) ⊛ raw
+          (ensured 𝓤 H A e.ended (e.clauses 𝓤 H A at-mem run) tt (r, (zs .0, tt)) tt p)))) (id⊢ 𝓤 _) $ await ! tt $ pick ! (λ p. split ! $
+          move ! (1 ∷ []) $ use1 W (raw (fact 𝓤 (p ≡ filledRow r (zs .0)))) (told 𝓤 H A at-mem run r (zs .0) p) $
           heard ! (p ≡ filledRow r (zs .0)) (λ e₃. split ! $ drop ! $
           peeks ! F.the-row (Is F.the-row) (shows 𝓤 H A F.the-row) p (v′ ∷ []) (λ isp.
           land ! (from ! (stop !)) (init ! 17 refl (LL.lawful F.the-type F′.the-laws 𝓤 H A W .typed p _ isp .0)) $
           returns ! (look ! 17 refl) $ forget ! 1 refl $ forget ! 4 refl $ forget ! 6 refl $ forget ! 8 refl $ forget ! 10 refl $
           forget ! 13 refl $ forget ! 15 refl $ forget ! 17 refl $ move ! (17 ∷ 18 ∷ []) $ free1 ! $ move ! (15 ∷ 16 ∷ []) $ free1 ! $
           move ! (13 ∷ 14 ∷ []) $ free1 ! $ move ! (1 ∷ 12 ∷ []) $ free1 ! $ move ! (9 ∷ 10 ∷ []) $ free1 ! $ move ! (7 ∷ 8 ∷ []) $
-          free1 ! $
-          move ! (5 ∷ 6 ∷ []) $ free1 ! $ move ! (3 ∷ 4 ∷ []) $ free1 ! $ free0 ! $ keep ! (0 ∷ []) $
+          free1 ! $ move ! (5 ∷ 6 ∷ []) $ free1 ! $ move ! (3 ∷ 4 ∷ []) $ free1 ! $ free0 ! $ keep ! (0 ∷ []) $
           by ! (exits r (zs .0) p v′ said e₃))))))))))))))))))))))
 
 module _ {M : Type 1} (𝓤 : URA M) (H : Heap 𝓤) (A : Atoms 𝓤) (W : Given 𝓤 H A) (at-mem : Memory → SProp 𝓤) (run : Routine → Fun 𝓤) where
