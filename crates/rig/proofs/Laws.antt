@@ -38,12 +38,14 @@ operation-keeps c powers b image h = powering-sound (scanned c image (noFaults c
 operation-keeps c (recovers page flight writable) b image h =
     record { writer = recovered-sound (b .writer) page flight writable (h .writer); queue = h .queue }
 operation-keeps c resets b image h = record { writer = recovered-sound (b .writer) 0 1 true (h .writer); queue = h .queue }
-operation-keeps c (flushes buffered clock) b image h = record { writer = flushed-sound (b .writer) buffered clock (h .writer); queue = h .queue }
+operation-keeps c (flushes buffered clock) b image h =
+    record { writer = flushed-sound (b .writer) buffered clock (h .writer); queue = h .queue }
 
 -- the same of a bench that is known by an equation
 
 pub unpowered-as : (b : Bench) → b ≡ unpowered → SoundBench b
 unpowered-as b e = subst SoundBench (sym e) unpowered-sound
 
-pub played-as : (c : ℕ) (o : Operation) (b : Bench) (image : List ℕ) (r : Played) → r ≡ played c o b image → SoundBench b → SoundBench (r .bench)
+pub played-as : (c : ℕ) (o : Operation) (b : Bench) (image : List ℕ) (r : Played) → r ≡ played c o b image → SoundBench b
+    → SoundBench (r .bench)
 played-as c o b image r e h = subst (λ (p : Played). SoundBench (p .bench)) (sym e) (operation-keeps c o b image h)

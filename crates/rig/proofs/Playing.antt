@@ -1,6 +1,6 @@
 -- The rows of a script, one after another: what is left leads from the bench, the image and the output to where all of it leads. And the
 -- tests in front of it. Assumes nothing.
-use Prim.Native.Nat.{ℕ, zero, suc, _+_, _-_, _*_, _/_, _≤_, _<_}
+use Prim.Native.Nat.{ℕ, suc, _+_, _-_, _*_, _≤_, _<_}
 use mathlib.Core.Path.{_≡_, refl, sym, ap, ap₂, _∙_}
 use mathlib.Core.Bool.{Bool, true, false, not}
 use mathlib.Core.List.{List, [], _∷_, _++_, append-assoc, append-nil}
@@ -9,7 +9,7 @@ use native.Mathlib.Numerals.{add-one}
 use borrow.Author.Tests.{eq-eqb, ne-eqb, not-true, not-false}
 use lib.Dec.{eqb}
 use lib.ListN.{length, take, drop, length-append}
-use lib.Seq.{take-all, take-append-seam, length-take-le, take-length, take-at, paste}
+use lib.Seq.{take-all, length-take-le, take-length, take-at}
 use Rattle.laws.specs.Answers.{Answer, gives, refuses, must, refusal}
 use Rattle.laws.specs.Refusals.{badLength}
 use Rattle.laws.specs.declared.Refusal.{Refusal}
@@ -28,7 +28,8 @@ use Rattle.rig.specs.declared.Played.{Played}
 written-more : (l : List ℕ) (at : ℕ) (b : List ℕ) → at + length b ≤ length l → take (at + length b) (placed l at b) ≡ take at l ++ b
 written-more l at b h =
     ap (take (at + length b)) (placed-fits l at b h ∙ ap (λ (x : List ℕ). take at l ++ x ++ drop (at + length b) l) (take-length b))
-    ∙ take-at (take at l ++ b) (drop (at + length b) l) (at + length b) (omega (arith, length-append (take at l) b, length-take-le at l (omega arith)))
+    ∙ take-at (take at l ++ b) (drop (at + length b) l) (at + length b)
+    (omega (arith, length-append (take at l) b, length-take-le at l (omega arith)))
 
 length-tells : (p : Played) → length (tellsOf p) ≡ 40
 unfolding tellsOf leBytes
@@ -44,7 +45,11 @@ module _ (c : ℕ) (script image₀ : List ℕ) where
     pub told : take (i * 40) output ++ tells c (left i) b image ≡ tells c (operations script) unpowered image₀
 
   pub leads-first : (b : Bench) (output : List ℕ) → b ≡ unpowered → Leads b image₀ output 0
-  leads-first b output e = record { picture = ap₂ (λ (os : List Operation) (x : Bench). playsImage c os x image₀) all e; told = ap₂ (λ (os : List Operation) (x : Bench). tells c os x image₀) all e }
+  leads-first b output e =
+      record {
+        picture = ap₂ (λ (os : List Operation) (x : Bench). playsImage c os x image₀) all e;
+        told = ap₂ (λ (os : List Operation) (x : Bench). tells c os x image₀) all e;
+      }
     where
       all : left 0 ≡ operations script
       all = ap (operationsFrom script 0) {x = rowsIn script - 0} {y = rowsIn script} (omega arith)
@@ -103,7 +108,10 @@ module _ (c : ℕ) (script image₀ : List ℕ) where
       → Leads b image output i
       → (image ≡ playsImage c (operations script) unpowered image₀) × (output ≡ tells c (operations script) unpowered image₀)
   unfolding operationsFrom playsImage tells
-  leads-end b image output i h k n l = (sym (ap (λ (os : List Operation). playsImage c os b image) none) ∙ l .picture, sym (append-nil output) ∙ ap₂ (λ (x : List ℕ) (os : List Operation). x ++ tells c os b image) (sym all) (sym none) ∙ l .told)
+  leads-end b image output i h k n l = (
+    sym (ap (λ (os : List Operation). playsImage c os b image) none) ∙ l .picture,
+    sym (append-nil output) ∙ ap₂ (λ (x : List ℕ) (os : List Operation). x ++ tells c os b image) (sym all) (sym none) ∙ l .told,
+  )
     where
       none : left i ≡ []
       none = ap (operationsFrom script i) {x = rowsIn script - i} {y = 0} (omega arith)
@@ -131,7 +139,8 @@ module _ (c : ℕ) (image script output : List ℕ) where
   Ended a image′ output′ =
       Ends a (playTold c image script output) image′ (afterPlay c image script output) output′ (outputAfter c image script output)
 
-  refused-ends : (x : Refusal) → ((A : Type 0) (rest : Answer A) → refuses (x .number) (x .fault) ≡ tested A rest) → Ended (told (Refused x)) image output
+  refused-ends : (x : Refusal) → ((A : Type 0) (rest : Answer A) → refuses (x .number) (x .fault) ≡ tested A rest)
+      → Ended (told (Refused x)) image output
   refused-ends x e =
       record { answer = e (Unit {0}) _; left = ap (leaves image) (e (List ℕ) _); tells = ap (leaves output) (e (List ℕ) _) }
 
@@ -141,26 +150,31 @@ module _ (c : ℕ) (image script output : List ℕ) where
     no-image x w = refused-ends x (λ A rest. image-refused c (length image) a e _ x w)
 
     module _ (w : a ≡ Done) (b : Bool) (eb : b ≡ isScript script) where
-      passed : (A : Type 0) (rest : Answer A) → tested A rest
-          ≡ must (isScript script) badLength (must (eqb (length output) (rowsIn script * 40)) badLength rest)
+      -- the test of the output
+      abbrev fits : (A : Type 0) → Answer A → Answer A
+      fits A rest = must (eqb (length output) (rowsIn script * 40)) badLength rest
+
+      passed : (A : Type 0) (rest : Answer A) → tested A rest ≡ must (isScript script) badLength (fits A rest)
       unfolding onScript
       passed A rest = let h = image-held c (length image) a e w in on-image c (length image) _ (h .0) (h .1)
 
-      refused-as : (A : Type 0) (x : Refusal) (rest : Answer A) → x ≡ refusal badLength 0 → refuses badLength 0 ≡ rest → refuses (x .number) (x .fault) ≡ rest
+      refused-as : (A : Type 0) (x : Refusal) (rest : Answer A) → x ≡ refusal badLength 0 → refuses badLength 0 ≡ rest
+          → refuses (x .number) (x .fault) ≡ rest
       refused-as A x rest ex er = ap {B = Answer A} (λ (y : Refusal). refuses (y .number) (y .fault)) ex ∙ er
 
       pub no-script : (x : Refusal) → not b ≡ true → x ≡ refusal badLength 0 → Ended (told (Refused x)) image output
       no-script x n ex =
           refused-ends x
           (λ A rest. refused-as A x (tested A rest) ex
-          (sym (passed A rest ∙ ap (λ (t : Bool). must t badLength (must (eqb (length output) (rowsIn script * 40)) badLength rest)) (sym eb ∙ not-true b n))))
+          (sym (passed A rest ∙ ap (λ (t : Bool). must t badLength (fits A rest)) (sym eb ∙ not-true b n))))
 
       module _ (n : not b ≡ false) where
-        passed-script : (A : Type 0) (rest : Answer A) → tested A rest ≡ must (eqb (length output) (rowsIn script * 40)) badLength rest
+        passed-script : (A : Type 0) (rest : Answer A) → tested A rest ≡ fits A rest
         passed-script A rest =
-            passed A rest ∙ ap (λ (t : Bool). must t badLength (must (eqb (length output) (rowsIn script * 40)) badLength rest)) (sym eb ∙ not-false b n)
+            passed A rest ∙ ap (λ (t : Bool). must t badLength (fits A rest)) (sym eb ∙ not-false b n)
 
-        pub other-output : (x : Refusal) → (length output ≡ rowsIn script * 40 → ⊥) → x ≡ refusal badLength 0 → Ended (told (Refused x)) image output
+        pub other-output : (x : Refusal) → (length output ≡ rowsIn script * 40 → ⊥) → x ≡ refusal badLength 0
+            → Ended (told (Refused x)) image output
         other-output x h ex =
             refused-ends x
             (λ A rest. refused-as A x (tested A rest) ex

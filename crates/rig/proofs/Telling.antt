@@ -1,6 +1,6 @@
 -- What is told after a call, laid from its front. Assumes nothing.
-use Prim.Native.Nat.{ℕ, _/_, _%_, _^_, _<_}
-use mathlib.Core.Path.{_≡_, refl, sym, ap, ap₂, _∙_}
+use Prim.Native.Nat.{ℕ, _/_, _%_, _^_}
+use mathlib.Core.Path.{_≡_, refl, ap, ap₂, _∙_}
 use mathlib.Core.Bool.{Bool, true, false, cond}
 use mathlib.Core.List.{List, [], _∷_, _++_}
 use mathlib.Core.Option.{Option, none, some}
@@ -71,7 +71,8 @@ module _ (p : Played) where
   tells-made u b1 b2 b3 b4 number start two three four o1 o2 o3 o4 eu f1 f2 f3 f4 en es d2 d3 d4 e1 e2 e3 e4 =
       e4
       ∙ ap₂ (λ (x y : List ℕ). placed x 32 y)
-      (e3 ∙ ap₂ (λ (x y : List ℕ). placed x 20 y) (e2 ∙ ap₂ (λ (x y : List ℕ). placed x 8 y) (e1 ∙ ap (placed (replicate 40 0) 0) first) d2) third)
+      (e3 ∙ ap₂ (λ (x y : List ℕ). placed x 20 y)
+      (e2 ∙ ap₂ (λ (x y : List ℕ). placed x 8 y) (e1 ∙ ap (placed (replicate 40 0) 0) first) d2) third)
       (d4 ∙ ap bytes64 es)
       ∙ laid
     where
@@ -81,4 +82,5 @@ module _ (p : Played) where
           ∷ (f4 ∙ flag-there (writer .«has_write_back_since») (writer .«write_back_since_ms»)) k ∷ p .bench .queue .held ∷ 0 ∷ 0 ∷ []
 
       third : three ≡ state
-      third = d3 ∙ ap (λ (n : ℕ). leBytes 4 (writer .«next_page») ++ (leBytes 4 (writer .«next_flight») ++ leBytes 4 n)) (en ∙ ap numberOr0 eu)
+      third =
+          d3 ∙ ap (λ (n : ℕ). leBytes 4 (writer .«next_page») ++ (leBytes 4 (writer .«next_flight») ++ leBytes 4 n)) (en ∙ ap numberOr0 eu)

@@ -1,22 +1,21 @@
 -- Each operation, by the row that says it and by the call that does it. Assumes nothing.
 use Prim.Native.Nat.{ℕ, zero, suc, _+_, _-_, _*_, _/_, _^_, _≤_, _<_, min}
-use mathlib.Core.Path.{_≡_, refl, sym, ap, ap₂, _∙_}
+use mathlib.Core.Path.{_≡_, refl, sym, ap, _∙_}
 use mathlib.Core.Bool.{Bool, true, false, false≢true}
-use mathlib.Core.List.{List, [], _∷_, _++_}
+use mathlib.Core.List.{List, _∷_}
 use native.Mathlib.Decide.{decLe}
 use native.Mathlib.Omega.{arith}
-use lib.ListN.{length, getD, take, drop, replicate}
-use Rattle.laws.specs.Answers.{Answer, gives, refuses, must}
+use lib.ListN.{length, getD, take, replicate}
+use Rattle.laws.specs.Answers.{Answer, must}
 use Rattle.laws.specs.Refusals.{invalidLayout}
 use Rattle.laws.specs.declared.Refusal.{Refusal}
-use Rattle.words.specs.Words.{leBytes, u32At, placed}
-use Rattle.layout.specs.Layout.{validCapacity, pagesIn}
+use Rattle.words.specs.Words.{u32At}
+use Rattle.layout.specs.Layout.{validCapacity}
 use Rattle.layout.proofs.Capacity.{valid}
 use Rattle.store.specs.Store.{part, onImage, onLengths}
 use Rattle.blackbox.specs.Record.{recordOf, recordDecoded, recordAnswer}
-use Rattle.blackbox.specs.declared.FlightRecord.{FlightRecord}
 use Rattle.blackbox.specs.declared.RecordAnswer.{RecordAnswer}
-use Rattle.records.specs.Scan.{toldScan, scanPages, scanned}
+use Rattle.records.specs.Scan.{toldScan, scanned}
 use Rattle.records.specs.declared.Scan.{Scan}
 use Rattle.records.specs.declared.ScanAnswer.{ScanAnswer}
 use Rattle.records.specs.declared.ScanAnswer.the-variants as Answered
@@ -33,7 +32,7 @@ use Rattle.log_writer.specs.declared.DrainAnswer.{DrainAnswer}
 use Rattle.log_writer.specs.declared.WriteAnswer.{WriteAnswer}
 use Rattle.script.specs.Script.{Operation, flagByte, flagAt, nextIn, operationIn}
 use Rattle.script.proofs.Rows.{record-in, says-offer, says-drain, says-write, says-power, says-recover, says-reset, says-flush}
-use Rattle.rig.specs.Rig.{bench, unpowered, playing, offering, draining, writing, outcomeOf, powering, flushing, noFaults, played, imageAfter}
+use Rattle.rig.specs.Rig.{bench, unpowered, playing, offering, draining, writing, powering, flushing, noFaults, played, imageAfter}
 use Rattle.rig.specs.declared.Bench.{Bench}
 use Rattle.rig.specs.declared.Played.{Played}
 
@@ -41,8 +40,8 @@ pub unpowered-made : (w : LogWriter) (q : RecordQueue) → w ≡ fresh → q ≡
 unfolding unpowered
 unpowered-made w q ew eq = λ k. bench (ew k) (eq k)
 
-pub offer-made : (w : LogWriter) (q : RecordQueue) (row : List ℕ) (read : RecordAnswer) (answer : OfferAnswer) (r : Played) → length row ≡ 288
-    → read ≡ recordAnswer (recordDecoded (part 32 48 row)) → answer ≡ offered q (read .«record»)
+pub offer-made : (w : LogWriter) (q : RecordQueue) (row : List ℕ) (read : RecordAnswer) (answer : OfferAnswer) (r : Played)
+    → length row ≡ 288 → read ≡ recordAnswer (recordDecoded (part 32 48 row)) → answer ≡ offered q (read .«record»)
     → r ≡ playing w (answer .queue) (answer .refused) 0 0 0 → r ≡ offering w (offered q (recordOf (part 32 48 row)))
 offer-made w q row read answer r n er ea e =
     e ∙ ap (offering w) (ea ∙ ap (offered q) (record-in row read n er))
@@ -105,11 +104,12 @@ module _ (c : ℕ) (image : List ℕ) (s : ScanAnswer) (w : LogWriter) (q : Reco
 pub recover-made : (w : LogWriter) (q : RecordQueue) (row : List ℕ) (page flight : ℕ) (writable : Bool) (v : LogWriter) (r : Played)
     → page ≡ u32At row 8 → flight ≡ u32At row 12 → writable ≡ flagAt row 6 → v ≡ recovered w page flight writable → r ≡ playing v q 0 0 0 0
     → r ≡ playing (recovered w (u32At row 8) (u32At row 12) (flagAt row 6)) q 0 0 0 0
-recover-made w q row page flight writable v r ep ef eb ev er = er ∙ ap (λ (u : LogWriter). playing u q 0 0 0 0) (ev ∙ (λ k. recovered w (ep k) (ef k) (eb k)))
+recover-made w q row page flight writable v r ep ef eb ev er =
+    er ∙ ap (λ (u : LogWriter). playing u q 0 0 0 0) (ev ∙ (λ k. recovered w (ep k) (ef k) (eb k)))
 
-pub flush-made : (w : LogWriter) (q : RecordQueue) (row : List ℕ) (buffered : Bool) (low high : ℕ) (answer : FlushAnswer) (byte : ℕ) (r : Played)
-    → buffered ≡ flagAt row 6 → low ≡ u32At row 8 → high ≡ u32At row 12 → answer ≡ flushed w buffered (low + 4294967296 * high)
-    → byte ≡ flagByte (answer .flush) → r ≡ playing (answer .writer) q byte 0 0 0
+pub flush-made : (w : LogWriter) (q : RecordQueue) (row : List ℕ) (buffered : Bool) (low high : ℕ) (answer : FlushAnswer)
+    (byte : ℕ) (r : Played) → buffered ≡ flagAt row 6 → low ≡ u32At row 8 → high ≡ u32At row 12
+    → answer ≡ flushed w buffered (low + 4294967296 * high) → byte ≡ flagByte (answer .flush) → r ≡ playing (answer .writer) q byte 0 0 0
     → r ≡ flushing q (flushed w (flagAt row 6) (u32At row 8 + 2 ^ 32 * u32At row 12))
 flush-made w q row buffered low high answer byte r eb el eh ea ey er =
     er ∙ ap (λ (y : ℕ). playing (answer .writer) q y 0 0 0) ey ∙ ap (flushing q) (ea ∙ (λ k. flushed w (eb k) (el k + 4294967296 * eh k)))
@@ -124,7 +124,8 @@ module _ (c : ℕ) (row image : List ℕ) (b : Bench) where
   abbrev Does : Played → List ℕ → Type 0
   Does r image′ = (r ≡ played c (operationIn row) b image) × (image′ ≡ imageAfter c (operationIn row) b image)
 
-  does : (o : Operation) (r : Played) (image′ : List ℕ) → operationIn row ≡ o → r ≡ played c o b image → image′ ≡ imageAfter c o b image → Does r image′
+  does : (o : Operation) (r : Played) (image′ : List ℕ) → operationIn row ≡ o → r ≡ played c o b image
+      → image′ ≡ imageAfter c o b image → Does r image′
   does o r image′ eo er em = (
     er ∙ ap (λ (p : Operation). played c p b image) (sym eo),
     em ∙ ap (λ (p : Operation). imageAfter c p b image) (sym eo),
@@ -164,7 +165,8 @@ module _ (c : ℕ) (row image : List ℕ) (b : Bench) where
     unfolding played imageAfter
     power-does e er = does _ r image (says-power row (sym ey ∙ e)) er refl
 
-    pub recover-does : y ≡ 4 → r ≡ playing (recovered (b .writer) (u32At row 8) (u32At row 12) (flagAt row 6)) (b .queue) 0 0 0 0 → Does r image
+    pub recover-does : y ≡ 4 → r ≡ playing (recovered (b .writer) (u32At row 8) (u32At row 12) (flagAt row 6)) (b .queue) 0 0 0 0
+        → Does r image
     unfolding played imageAfter
     recover-does e er = does _ r image (says-recover row (sym ey ∙ e)) er refl
 
@@ -172,6 +174,7 @@ module _ (c : ℕ) (row image : List ℕ) (b : Bench) where
     unfolding played imageAfter
     reset-does e er = does _ r image (says-reset row (sym ey ∙ e)) er refl
 
-    pub flush-does : 5 < y → r ≡ flushing (b .queue) (flushed (b .writer) (flagAt row 6) (u32At row 8 + 2 ^ 32 * u32At row 12)) → Does r image
+    pub flush-does : 5 < y → r ≡ flushing (b .queue) (flushed (b .writer) (flagAt row 6) (u32At row 8 + 2 ^ 32 * u32At row 12))
+        → Does r image
     unfolding played imageAfter
     flush-does h er = does _ r image (says-flush row (omega (arith, ey))) er refl

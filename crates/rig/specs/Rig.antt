@@ -1,7 +1,7 @@
 -- The rig: plays a script on an image, from power-on to power-off, and after each call tells its outcome, its report and the writer's
 -- visible state. Document 01, "Writer and store".
-use Prim.Native.Nat.{ℕ, zero, suc, _*_, _/_, _%_, _^_}
-use mathlib.Core.Bool.{Bool, true, false, cond}
+use Prim.Native.Nat.{ℕ, _*_, _/_, _%_, _^_}
+use mathlib.Core.Bool.{true, cond}
 use mathlib.Core.List.{List, [], _∷_, _++_}
 use mathlib.Core.Option.{Option, none, some}
 use lib.Dec.{eqb}
@@ -9,7 +9,7 @@ use lib.ListN.{length, replicate}
 use Rattle.laws.specs.Refusals.{badLength}
 use Rattle.laws.specs.Answers.{Answer, gives, refuses, must}
 use Rattle.words.specs.Words.{leBytes}
-use Rattle.store.specs.Store.{onImage, done, leaves}
+use Rattle.store.specs.Store.{onImage, leaves}
 use Rattle.records.specs.Scan.{scanned}
 use Rattle.records.specs.declared.Scan.{Scan}
 use Rattle.assembler.specs.Assembler.{unfinishedFlight}
@@ -25,7 +25,8 @@ use Rattle.log_writer.specs.declared.DrainAnswer.{DrainAnswer}
 use Rattle.log_writer.specs.declared.WriteAnswer.{WriteAnswer}
 use Rattle.log_writer.specs.declared.PageWrite.{PageWrite}
 use Rattle.log_writer.specs.declared.PageWrite.the-variants.{Nothing, Written, RegionFull, ProgramFailed, PowerCut}
-use Rattle.script.specs.Script.{Operation, offers, drains, writes, powers, recovers, resets, flushes, flagByte, isScript, rowsIn, operations}
+use Rattle.script.specs.Script.{Operation, offers, drains, writes, powers, recovers, resets, flushes, flagByte, isScript, rowsIn}
+use Rattle.script.specs.Script.{operations}
 use Rattle.rig.specs.declared.Bench.{Bench}
 use Rattle.rig.specs.declared.Played.{Played}
 
@@ -119,8 +120,8 @@ since w = cond (w .«has_write_back_since») (some (w .«write_back_since_ms»))
 abbrev pub bytes64 : ℕ → List ℕ
 bytes64 n = leBytes 4 (n % 2 ^ 32) ++ leBytes 4 (n / 2 ^ 32)
 
--- outcome, writable, recording, unfinished (flag), flush start (flag), queue length; pages_written, records_dropped, write_faults; next page,
--- next flight, unfinished flight, flush start
+-- outcome, writable, recording, unfinished (flag), flush start (flag), queue length; pages_written, records_dropped, write_faults;
+-- next page, next flight, unfinished flight, flush start
 unfoldable pub tellsOf : Played → List ℕ
 tellsOf p =
     p .outcome ∷ flagByte (p .bench .writer .writable) ∷ flagByte (p .bench .writer .assembler .recording)

@@ -25,7 +25,8 @@ ghost use Rattle.queue.specs.Queue.{offered};
 ghost use Rattle.log_state.specs.Writer.{recovered};
 ghost use Rattle.log_state.specs.Flush.{flushed};
 ghost use Rattle.script.specs.Script.{flagAt, operationIn, operations, rowsIn};
-ghost use Rattle.rig.specs.Rig.{unpowered, playing, offering, draining, writing, outcomeOf, powering, flushing, noFaults, played, imageAfter, isThere, numberOr0, since};
+ghost use Rattle.rig.specs.Rig.{unpowered, playing, offering, draining, writing, outcomeOf, powering, flushing, noFaults, played};
+ghost use Rattle.rig.specs.Rig.{imageAfter, isThere, numberOr0, since};
 ghost use Rattle.rig.specs.Rig.{bytes64, tellsOf, playsImage, tells, playTold, afterPlay, outputAfter};
 ghost use Rattle.rig.specs.Laws.{SoundBench};
 

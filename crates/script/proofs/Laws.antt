@@ -7,20 +7,20 @@ use native.Mathlib.Omega.{arith}
 use borrow.Author.Tests.{eq-eqb}
 use lib.Dec.{eqb}
 use lib.ListN.{length, getD, take, drop, replicate, length-append, length-drop, length-replicate}
-use lib.Seq.{length-take-le, take-at, drop-at, drop-append-add, drop-append-le, take-append-le}
+use lib.Seq.{length-take-le, take-at, drop-append-add}
 use Rattle.laws.proofs.Choice.{cond-true, cond-false}
-use Rattle.words.specs.Words.{Bytes, leValue, leBytes, leAt, u32At, sameBytes}
+use Rattle.words.specs.Words.{Bytes, leBytes, leAt, u32At, sameBytes}
 use Rattle.words.proofs.Numbers.{value-le-bytes, bytes-drop, bytes-take}
 use Rattle.words.proofs.Same.{same-refl}
 use Rattle.store.specs.Store.{part}
-use Rattle.blackbox.specs.Record.{recordOf, recordBytes, Fit}
-use Rattle.blackbox.specs.declared.FlightRecord.{FlightRecord}
+use Rattle.blackbox.specs.Record.{recordOf, recordBytes}
 use Rattle.blackbox.proofs.Laying.{length-record}
 use Rattle.blackbox.proofs.RecordTrip.{record-read-back, read-fits, at-lt}
 use Rattle.log_writer.specs.declared.NextProgram.{NextProgram}
 use Rattle.log_writer.specs.declared.NextProgram.the-variants.{Busy, Fault, Cut}
-use Rattle.script.specs.Script.{Operation, offers, drains, writes, powers, recovers, resets, flushes, flagByte, nextByte, filled, row, rowOf}
-use Rattle.script.specs.Script.{flagAt, nextIn, byOperation, operationIn, isRow, rowAt, rowsIn, eachIsRow, isScript, operationsFrom, operations, scriptOf}
+use Rattle.script.specs.Script.{Operation, offers, drains, writes, powers, recovers, resets, flushes, flagByte, nextByte, row, rowOf}
+use Rattle.script.specs.Script.{flagAt, nextIn, operationIn, isRow, rowAt, rowsIn, eachIsRow, isScript, operationsFrom, operations}
+use Rattle.script.specs.Script.{scriptOf}
 use Rattle.script.specs.Laws.{Writes, EachWrites, HasScript, RowsFit}
 use Rattle.script.proofs.Rows.{says-offer, says-drain, says-write, says-power, says-recover, says-reset, says-flush}
 
@@ -32,7 +32,9 @@ module _ (operation next armed whileDisarmed flag first second : ℕ) (payload :
 
   length-row : length payload ≤ 256 → length it ≡ 288
   unfolding row leBytes
-  length-row h = omega (arith, length-append payload (replicate (256 - length payload) 0), length-replicate {A = ℕ} (256 - length payload) 0)
+  length-row h =
+      let left = 256 - length payload in
+      omega (arith, length-append payload (replicate left 0), length-replicate {A = ℕ} left 0)
 
   first-back : first < 2 ^ 32 → u32At it 8 ≡ first
   unfolding row leBytes leAt
@@ -76,7 +78,8 @@ read-back (offers r) h =
 read-back (drains limit whileDisarmed armed succeed next keep) h =
     says-drain (rowOf (drains limit whileDisarmed armed succeed next keep)) refl
     ∙ (λ k. drains (first-back 1 (nextByte next) (flagByte armed) (flagByte whileDisarmed) 0 limit succeed keep (h .0) k)
-    (flag-back whileDisarmed k) (flag-back armed k) (second-back 1 (nextByte next) (flagByte armed) (flagByte whileDisarmed) 0 limit succeed keep (h .1) k)
+    (flag-back whileDisarmed k) (flag-back armed k)
+    (second-back 1 (nextByte next) (flagByte armed) (flagByte whileDisarmed) 0 limit succeed keep (h .1) k)
     (next-back next k) (payload-back 1 (nextByte next) (flagByte armed) (flagByte whileDisarmed) 0 limit succeed keep 256 (h .2) k))
 read-back (writes succeed next keep) h =
     says-write (rowOf (writes succeed next keep)) refl
@@ -85,7 +88,8 @@ read-back (writes succeed next keep) h =
 read-back powers h = says-power (rowOf powers) refl
 read-back (recovers page flight writable) h =
     says-recover (rowOf (recovers page flight writable)) refl
-    ∙ (λ k. recovers (first-back 4 0 0 0 (flagByte writable) page flight [] (h .0) k) (second-back 4 0 0 0 (flagByte writable) page flight [] (h .1) k)
+    ∙ (λ k. recovers (first-back 4 0 0 0 (flagByte writable) page flight [] (h .0) k)
+    (second-back 4 0 0 0 (flagByte writable) page flight [] (h .1) k)
     (flag-back writable k))
 read-back resets h = says-reset (rowOf resets) refl
 read-back (flushes buffered clock) h =

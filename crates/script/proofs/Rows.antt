@@ -8,7 +8,7 @@ use native.Mathlib.Numerals.{add-one}
 use native.Mathlib.Decide.{decLt}
 use borrow.Author.Tests.{eq-eqb, ne-eqb, not-true, not-false}
 use lib.Dec.{eqb}
-use lib.ListN.{length, getD, take, drop, replicate, length-append, length-drop}
+use lib.ListN.{length, getD, take, drop, replicate, length-drop}
 use lib.Seq.{length-take-le}
 use Rattle.laws.specs.Answers.{gives}
 use Rattle.laws.proofs.Choice.{cond-true, cond-false}
@@ -20,8 +20,8 @@ use Rattle.blackbox.specs.declared.RecordAnswer.{RecordAnswer}
 use Rattle.blackbox.proofs.Laying.{length-padded, padded-more, padded-twice, stores-follow}
 use Rattle.log_writer.specs.declared.NextProgram.{NextProgram}
 use Rattle.log_writer.specs.declared.NextProgram.the-variants.{Busy, Fault, Cut}
-use Rattle.script.specs.Script.{Operation, offers, drains, writes, powers, recovers, resets, flushes, flagByte, nextByte, filled, row, rowOf}
-use Rattle.script.specs.Script.{flagAt, nextIn, byOperation, operationIn, isRow, rowAt, rowsIn, eachIsRow, isScript}
+use Rattle.script.specs.Script.{Operation, offers, drains, writes, powers, recovers, resets, flushes, flagByte, nextByte, row, rowOf}
+use Rattle.script.specs.Script.{flagAt, nextIn, operationIn, isRow, rowAt, rowsIn, eachIsRow, isScript}
 
 -- ---- a row is laid from its front
 
@@ -36,11 +36,12 @@ module _ (operation next armed whileDisarmed flag first second : ℕ) where
   unfolding padded leBytes
   front-stored = stores-follow 288 0 [] 0 ((0, head) ∷ (8, leBytes 4 first) ∷ (12, leBytes 4 second) ∷ []) refl (omega arith)
 
-  row-filled : (payload : List ℕ) → length payload ≤ 256 → padded 288 0 (padded 32 0 front ++ payload) ≡ row operation next armed whileDisarmed flag first second payload
+  row-filled : (payload : List ℕ) → length payload ≤ 256
+      → padded 288 0 (padded 32 0 front ++ payload) ≡ row operation next armed whileDisarmed flag first second payload
   unfolding padded leBytes row
   row-filled payload h =
-      ap (λ (k : ℕ). padded 32 0 front ++ (payload ++ replicate k 0)) {x = 288 - length (padded 32 0 front ++ payload)} {y = 256 - length payload}
-      (omega arith)
+      ap (λ (k : ℕ). padded 32 0 front ++ (payload ++ replicate k 0))
+      {x = 288 - length (padded 32 0 front ++ payload)} {y = 256 - length payload} (omega arith)
 
   pub row-made : (payload one two o1 o2 o3 o4 : List ℕ) → length payload ≤ 256 → one ≡ leBytes 4 first → two ≡ leBytes 4 second
       → o1 ≡ placed (replicate 288 0) 0 head → o2 ≡ placed o1 8 one → o3 ≡ placed o2 12 two → o4 ≡ placed o3 32 payload
@@ -58,7 +59,9 @@ module _ (operation next armed whileDisarmed flag first second : ℕ) where
 
 record-there : (bytes : List ℕ) → length bytes ≡ 288 → recordDecoded (part 32 48 bytes) ≡ gives (recordOf (part 32 48 bytes))
 unfolding recordDecoded
-record-there bytes n = rw (eq-eqb (length (part 32 48 bytes)) 48 (length-take-le 48 (drop 32 bytes) (omega (arith, length-drop 32 bytes)))) refl
+record-there bytes n =
+    let long = length-take-le 48 (drop 32 bytes) (omega (arith, length-drop 32 bytes)) in
+    rw (eq-eqb (length (part 32 48 bytes)) 48 long) refl
 
 pub record-in : (bytes : List ℕ) (answer : RecordAnswer) → length bytes ≡ 288 → answer ≡ recordAnswer (recordDecoded (part 32 48 bytes))
     → answer .«record» ≡ recordOf (part 32 48 bytes)
@@ -114,7 +117,8 @@ module _ (bytes : List ℕ) where
 
   -- ---- whether it is the row of that operation
 
-  is-that : (o : Operation) (expected : List ℕ) (r : Bool) → operationIn bytes ≡ o → expected ≡ rowOf o → r ≡ sameBytes bytes expected → r ≡ isRow bytes
+  is-that : (o : Operation) (expected : List ℕ) (r : Bool) → operationIn bytes ≡ o → expected ≡ rowOf o
+      → r ≡ sameBytes bytes expected → r ≡ isRow bytes
   unfolding isRow
   is-that o expected r eo ee er = er ∙ ap (sameBytes bytes) (ee ∙ ap rowOf (sym eo))
 
@@ -133,16 +137,19 @@ module _ (bytes : List ℕ) where
   unfolding rowOf
   drain-row next b nb na nd limit succeed armed whileDisarmed expected r e e0 e1 e2 e3 e4 e5 e6 e7 e8 ee er =
       is-that _ expected r (says-drain e)
-      (ee ∙ (λ k. row 1 ((e2 ∙ ap nextByte (e1 ∙ ap nextIn e0)) k) ((e4 ∙ ap flagByte e3) k) ((e6 ∙ ap flagByte e5) k) 0 (e7 k) (e8 k) (part 32 256 bytes))) er
+      (ee ∙ (λ k. row 1 ((e2 ∙ ap nextByte (e1 ∙ ap nextIn e0)) k) ((e4 ∙ ap flagByte e3) k) ((e6 ∙ ap flagByte e5) k) 0 (e7 k) (e8 k)
+      (part 32 256 bytes))) er
 
   pub write-row : (next : NextProgram) (b nb succeed : ℕ) (expected : List ℕ) (r : Bool)
       → code ≡ 2 → b ≡ getD bytes 3 0 → next ≡ nextIn b → nb ≡ nextByte next → succeed ≡ u32At bytes 12
       → expected ≡ row 2 nb 0 0 0 0 succeed (part 32 256 bytes) → r ≡ sameBytes bytes expected → r ≡ isRow bytes
   unfolding rowOf
   write-row next b nb succeed expected r e e0 e1 e2 e3 ee er =
-      is-that _ expected r (says-write e) (ee ∙ (λ k. row 2 ((e2 ∙ ap nextByte (e1 ∙ ap nextIn e0)) k) 0 0 0 0 (e3 k) (part 32 256 bytes))) er
+      is-that _ expected r (says-write e)
+      (ee ∙ (λ k. row 2 ((e2 ∙ ap nextByte (e1 ∙ ap nextIn e0)) k) 0 0 0 0 (e3 k) (part 32 256 bytes))) er
 
-  pub power-row : (operation : ℕ) (r : Bool) → operation ≡ code → operation ≡ 3 → r ≡ sameBytes bytes (row 3 0 0 0 0 0 0 []) → r ≡ isRow bytes
+  pub power-row : (operation : ℕ) (r : Bool) → operation ≡ code → operation ≡ 3
+      → r ≡ sameBytes bytes (row 3 0 0 0 0 0 0 []) → r ≡ isRow bytes
   unfolding rowOf
   power-row operation r eo e er = is-that _ _ r (says-power (sym eo ∙ e)) refl er
 
@@ -153,7 +160,8 @@ module _ (bytes : List ℕ) where
   recover-row flag nf first second expected r e e1 e2 e3 e4 ee er =
       is-that _ expected r (says-recover e) (ee ∙ (λ k. row 4 0 0 0 ((e2 ∙ ap flagByte e1) k) (e3 k) (e4 k) [])) er
 
-  pub reset-row : (operation : ℕ) (r : Bool) → operation ≡ code → operation ≡ 5 → r ≡ sameBytes bytes (row 5 0 0 0 0 0 0 []) → r ≡ isRow bytes
+  pub reset-row : (operation : ℕ) (r : Bool) → operation ≡ code → operation ≡ 5
+      → r ≡ sameBytes bytes (row 5 0 0 0 0 0 0 []) → r ≡ isRow bytes
   unfolding rowOf
   reset-row operation r eo e er = is-that _ _ r (says-reset (sym eo ∙ e)) refl er
 
@@ -197,7 +205,8 @@ each-false script i (suc n) h e = go (decLt i n) (λ l. each-false script i n l 
     go (yes l) ih = cond-false (eachIsRow script n) (isRow (rowAt script n)) false (ih l)
     go (no l) ih =
         let z : i ≡ n = omega arith in
-        ap (λ (b : Bool). cond (eachIsRow script n) b false) (ap (λ (j : ℕ). isRow (rowAt script j)) (sym z) ∙ e) ∙ either (eachIsRow script n)
+        ap (λ (b : Bool). cond (eachIsRow script n) b false) (ap (λ (j : ℕ). isRow (rowAt script j)) (sym z) ∙ e)
+        ∙ either (eachIsRow script n)
 
 module _ (script : List ℕ) where
   -- the row at an index, as a part from its start to its end, is 288 bytes
@@ -224,7 +233,8 @@ module _ (script : List ℕ) where
         → false ≡ isScript script
     bad-row i r l er n =
         let z : i * 288 + 288 - i * 288 ≡ 288 = omega arith in
-        sym (whole ∙ each-false script i (rowsIn script) l (ap (λ (k : ℕ). isRow (take k (drop (i * 288) script))) (sym z) ∙ sym er ∙ not-true r n))
+        let none = ap (λ (k : ℕ). isRow (take k (drop (i * 288) script))) (sym z) ∙ sym er ∙ not-true r n in
+        sym (whole ∙ each-false script i (rowsIn script) l none)
 
     pub row-more : (i : ℕ) (r : Bool) → r ≡ isRow (take (i * 288 + 288 - i * 288) (drop (i * 288) script)) → not r ≡ false
         → eachIsRow script i ≡ true → eachIsRow script (i + 1) ≡ true

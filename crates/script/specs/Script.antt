@@ -2,15 +2,14 @@
 -- a keep mask; spare bytes are 0. A row is 288 bytes:
 --   0 length (288), 2 operation, 3 what the program after those that succeed does (0 busy, 1 fault, 2 cut), 4 armed,
 --   5 record_while_disarmed, 6 writable or buffered, 8 and 12 two numbers, 32 a record of 48 bytes or a keep mask of 256.
-use Prim.Native.Nat.{ℕ, zero, suc, _+_, _-_, _*_, _/_, _%_, _^_, _<_}
-use mathlib.Core.Path.{_≡_}
+use Prim.Native.Nat.{ℕ, zero, suc, _+_, _-_, _*_, _/_, _%_, _^_}
 use mathlib.Core.Bool.{Bool, true, false, cond, not}
 use mathlib.Core.List.{List, [], _∷_, _++_}
 use lib.Dec.{eqb}
 use lib.ListN.{length, getD, replicate}
 use Rattle.words.specs.Words.{leBytes, u32At, sameBytes}
 use Rattle.store.specs.Store.{part}
-use Rattle.blackbox.specs.Record.{recordOf, recordBytes, Fit}
+use Rattle.blackbox.specs.Record.{recordOf, recordBytes}
 use Rattle.blackbox.specs.declared.FlightRecord.{FlightRecord}
 use Rattle.log_writer.specs.declared.NextProgram.{NextProgram}
 use Rattle.log_writer.specs.declared.NextProgram.the-variants.{Busy, Fault, Cut}

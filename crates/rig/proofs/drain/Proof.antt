@@ -47,8 +47,9 @@ returns c =
     let c8 = c6 .before .before in
     let c11 = c8 .before .before .before in
     let c16 = c11 .before .before .before .before .before in
-    drain-does _ _ _ _ _ _ _ _ _ (c8 .u32-at2 .ensures) (c6 .before .byte-at .ensures) (c6 .next-in .ensures) _ _ _ _ (c16 .pre .2) (c11 .u32-at .ensures)
-    (c8 .before .before .flag-at .ensures) (c8 .before .flag-at2 .ensures) (c3 .drain-up-to .ensures .0) (c3 .drain-up-to .ensures .1) (c .drain-told .ensures)
+    drain-does _ _ _ _ _ _ _ _ _ (c8 .u32-at2 .ensures) (c6 .before .byte-at .ensures) (c6 .next-in .ensures) _ _ _ _ (c16 .pre .2)
+    (c11 .u32-at .ensures) (c8 .before .before .flag-at .ensures) (c8 .before .flag-at2 .ensures) (c3 .drain-up-to .ensures .0)
+    (c3 .drain-up-to .ensures .1) (c .drain-told .ensures)
 
 pub drain-spec : {M : Type 1} → statement M
 drain-spec =

@@ -23,7 +23,10 @@ unreported-requires : tie.Need-unreported-requires
 unreported-requires c κs = search needs
 
 returns : tie.Need-returns
-returns c = search (offer-made, needs)
+returns c =
+    let c6 = c .before .before .before .before .before .before in
+    let c9 = c6 .before .before .before in
+    offer-made _ _ (c9 .args .row .now) _ _ _ (c9 .pre .1) (c6 .decode .ensures) (c .before .before .before .offer .ensures) (c .unreported .ensures)
 
 pub offer-spec : {M : Type 1} → statement M
 offer-spec =

@@ -1,11 +1,10 @@
 -- `rig::play_rows` meets its contract. Assumes nothing.
 use Prim.Native.Nat.{_-_, _*_, _^_, _≤_, _<_}
-use mathlib.Core.Path.{_≡_, refl, sym, ap, _∙_}
+use mathlib.Core.Path.{_≡_, refl, _∙_}
 use native.Mathlib.Omega.{arith}
 use borrow.Author.Needs.{needs}
 use lib.ListN.{length}
 use Rattle.script.specs.Script.{rowsIn}
-use Rattle.script.proofs.Rows.{row-long}
 use Rattle.rig.specs.Laws.{SoundBench}
 use Rattle.rig.proofs.Laws.{unpowered-as, played-as}
 use Rattle.rig.proofs.Playing.{Leads, leads-first, leads-again, leads-end}
@@ -24,7 +23,9 @@ unpowered-bench-requires : tie.Need-unpowered-bench-requires Inv-loop μ-loop
 unpowered-bench-requires c κs = search needs
 
 loop-holds : tie.Need-loop-holds Inv-loop μ-loop
-loop-holds c = (refl, omega arith, refl, refl, unpowered-as _ (c .unpowered-bench .ensures), leads-first _ _ _ _ _ (c .unpowered-bench .ensures), omega arith)
+loop-holds c =
+    let e = c .unpowered-bench .ensures in
+    (refl, omega arith, refl, refl, unpowered-as _ e, leads-first _ _ _ _ _ e, omega arith)
 
 mul-a : tie.Need-mul-a Inv-loop μ-loop
 mul-a c = omega (arith, c .before .loop .inv .0)
@@ -45,12 +46,13 @@ step-requires : tie.Need-step-requires Inv-loop μ-loop
 step-requires c κs = search needs
 
 tells-of-requires : tie.Need-tells-of-requires Inv-loop μ-loop
-tells-of-requires c κs = played-as _ _ _ _ _ (c .before .before .step .ensures .0) (c .before .before .before .before .before .before .loop .inv .4)
+tells-of-requires c κs =
+    played-as _ _ _ _ _ (c .before .before .step .ensures .0) (c .before .before .before .before .before .before .loop .inv .4)
 
 mul-put-bytes : tie.Need-mul-put-bytes Inv-loop μ-loop
 mul-put-bytes c =
-    let c8 = c .before .before .before .before .before .before .before .before in
-    omega (arith, c8 .loop .inv .0, c8 .loop .inv .6, c .before .before .before .before .before .before .before .loop-test .taken)
+    let c7 = c .before .before .before .before .before .before .before in
+    omega (arith, c7 .before .loop .inv .0, c7 .before .loop .inv .6, c7 .loop-test .taken)
 
 slice-aggregate-put-bytes : tie.Need-slice-aggregate-put-bytes Inv-loop μ-loop
 slice-aggregate-put-bytes c = search needs
@@ -60,8 +62,8 @@ put-bytes-requires c κs = search needs
 
 add-i : tie.Need-add-i Inv-loop μ-loop
 add-i c =
-    let c13 = c .before .before .before .before .before .before .before .before .before .before .before .before .before in
-    omega (arith, c13 .loop .inv .0, c13 .loop .inv .6, c .before .before .before .before .before .before .before .before .before .before .before .before .loop-test .taken)
+    let c12 = c .before .before .before .before .before .before .before .before .before .before .before .before in
+    omega (arith, c12 .before .loop .inv .0, c12 .before .loop .inv .6, c12 .loop-test .taken)
 
 loop-less : tie.Need-loop-less Inv-loop μ-loop
 loop-less c = omega arith
@@ -79,8 +81,8 @@ loop-again c =
       c9 .step .kept .1 .1 .0 ∙ l .2,
       c3 .put-bytes .kept .0 ∙ l .3,
       played-as _ _ _ _ _ (c9 .step .ensures .0) (l .4),
-      leads-again _ _ _ _ _ _ _ (omega (arith, l .0, c9 .before .before .before .loop-test .taken)) _ _ _ _ (l .3 ∙ p) (c9 .step .ensures .0) (c9 .step .ensures .1) (c6 .tells-of .ensures)
-          (c3 .put-bytes .ensures) (l .5),
+      leads-again _ _ _ _ _ _ _ (omega (arith, l .0, c9 .before .before .before .loop-test .taken)) _ _ _ _ (l .3 ∙ p)
+          (c9 .step .ensures .0) (c9 .step .ensures .1) (c6 .tells-of .ensures) (c3 .put-bytes .ensures) (l .5),
       l .6,
     )
 

@@ -3,8 +3,7 @@ use Prim.Native.Nat.{_-_, _%_, _≤_}
 use mathlib.Core.Path.{_≡_, refl}
 use mathlib.Core.Bool.{true}
 use native.Mathlib.Omega.{arith}
-use lib.ListN.{length, length-drop}
-use lib.Seq.{length-take-le}
+use lib.ListN.{length}
 use Rattle.script.specs.Script.{rowsIn, eachIsRow}
 use Rattle.script.proofs.Rows.{bad-length, bad-row, row-more, no-row-yet, every-row, row-long}
 use Rattle.script.proofs.is_script.Statement.{statement}
@@ -44,7 +43,8 @@ is-row-requires c κs =
 returns-2 : tie.Need-returns-2 Inv-loop μ-loop
 returns-2 c =
     let l = c .before .before .before .before .loop in
-    bad-row _ (l .inv .1) (l .i) _ (omega (arith, c .before .before .before .loop-test .taken, l .inv .0)) (c .before .is-row .ensures) (c .if2 .taken)
+    bad-row _ (l .inv .1) (l .i) _ (omega (arith, c .before .before .before .loop-test .taken, l .inv .0)) (c .before .is-row .ensures)
+    (c .if2 .taken)
 
 add-i : tie.Need-add-i Inv-loop μ-loop
 add-i c = omega arith
