@@ -122,3 +122,25 @@ pub option-long : (o : Option ℕ) → length (optionRow o) ≡ 5
 unfolding leBytes
 option-long none = refl
 option-long (some n) = refl
+
+-- ---- a call that hands another's answer on, or lays a value that is never refused
+
+pub row-laid : (wanted : ℕ) (bytes old : List ℕ) (r : ℕ) (row new : List ℕ) → row ≡ bytes → length row ≡ wanted
+    → r ≡ replyOf (rowed (length row) (length old) (gives row)) → new ≡ leaves old (rowed (length row) (length old) (gives row))
+    → Ends r (replyOf (rowed wanted (length old) (gives bytes))) new (leaves old (rowed wanted (length old) (gives bytes)))
+row-laid wanted bytes old r row new e l h k = rw (← e, ← l) (record { returned = h; left = k })
+
+pub row-of : {A : Type 0} (bytes : A → List ℕ) (wanted : ℕ) (a other : A) (old : List ℕ) (r : ℕ) (new : List ℕ) → a ≡ other
+    → r ≡ replyOf (rowed wanted (length old) (gives (bytes a))) → new ≡ leaves old (rowed wanted (length old) (gives (bytes a)))
+    → Ends r (replyOf (rowed wanted (length old) (gives (bytes other)))) new (leaves old (rowed wanted (length old) (gives (bytes other))))
+row-of bytes wanted a other old r new e h k = rw (← e) (record { returned = h; left = k })
+
+-- a value's bytes, laid by another call
+pub row-gave : {A : Type 0} (bytes : A → List ℕ) (wanted : ℕ) (told : Answer A) (a : A) (old : List ℕ) (r : ℕ) (new : List ℕ) → told ≡ gives a
+    → r ≡ replyOf (rowed wanted (length old) (gives (bytes a))) → new ≡ leaves old (rowed wanted (length old) (gives (bytes a)))
+    → Ends r (replyOf (rowed wanted (length old) (laid bytes told))) new (leaves old (rowed wanted (length old) (laid bytes told)))
+row-gave bytes wanted told a old r new w h k = rw w (record { returned = h; left = k })
+
+pub reply-through : {A : Type 0} (told other : Answer A) (r : ℕ) (new after : List ℕ) → told ≡ other → r ≡ replyOf told → new ≡ after
+    → Ends r (replyOf other) new after
+reply-through told other r new after w h k = rw (← w) (record { returned = h; left = k })

@@ -7,7 +7,7 @@ ghost use Prim.Native.Nat.{_+_, _*_};
 ghost use lib.ListN.{length};
 ghost use Rattle.laws.specs.Answers.{gives, refuses};
 ghost use Rattle.store.specs.Store as Store;
-ghost use Rattle.reply.specs.Reply.{isSet, flagOf, replyOf, rowed, rowReply, rowAfter, someRow};
+ghost use Rattle.reply.specs.Reply.{isSet, flagOf, replyOf, rowed, rowReply, rowAfter, numberRow, someRow};
 
 // A flag as C hands it in: 0 is false, any other value is true.
 pub fn is_set(flag: u8) -> bool
@@ -59,6 +59,15 @@ pub fn give(answer: &mut [u8], bytes: &[u8]) -> u32
     }
     words::put_bytes(answer, 0, bytes);
     0
+}
+
+// A number in the answer row.
+pub fn give_number(answer: &mut [u8], n: u32) -> u32
+    ensures { λ r. ⌜ r ≡ rowReply 4 (now (answer .entry)) (gives (numberRow n)) ⌝ }
+    ensures { λ _. ⌜ now (answer .exit) ≡ rowAfter 4 (now (answer .entry)) (gives (numberRow n)) ⌝ }
+{
+    let row = words::u32_bytes(n);
+    give(answer, &row)
 }
 
 // A number of an Option that is there: the flag, and the number.

@@ -125,7 +125,7 @@ row-record rows start end a l e w =
     let width : end - start ≡ 48 = omega arith in
     let long : length (take 48 (drop start rows)) ≡ 48 = length-take-le 48 (drop start rows) (omega (arith, length-drop start rows)) in
     let read : recordAnswer (recordDecoded (take (end - start) (drop start rows))) ≡ recordAnswer (gives (recordOf (take 48 (drop start rows)))) =
-      rw (width, eq-eqb (length (take 48 (drop start rows))) 48 long) refl in
+    rw (width, eq-eqb (length (take 48 (drop start rows))) 48 long) refl in
     ap (λ (a : RecordAnswer). a .«record») (w ∙ read)
 
 pub five-records : (rows : List ℕ) (a b c d e : FlightRecord) → a ≡ recordOf (take 48 (drop 0 rows)) → b ≡ recordOf (take 48 (drop 48 rows))

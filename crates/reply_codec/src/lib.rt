@@ -11,6 +11,7 @@ use layout::StorageLayout;
 ghost use mathlib.Core.Path.{_≡_};
 ghost use Prim.Native.Nat.{_+_, _≤_};
 ghost use lib.ListN.{length, take, drop};
+ghost use Rattle.laws.specs.Answers.{gives};
 ghost use Rattle.layout.specs.Layout.{told, toldAddress};
 ghost use Rattle.blackbox.specs.Record.{recordBytes, recordOf};
 ghost use Rattle.blackbox.specs.Page as Page;
@@ -23,10 +24,7 @@ pub fn lay_number(a: NumberAnswer, answer: &mut [u8]) -> u32
 {
     match a {
         NumberAnswer::Refused(refusal) => reply::refuse(refusal, answer.len(), 4),
-        NumberAnswer::Number(n) => {
-            let row = words::u32_bytes(n);
-            reply::give(answer, &row)
-        }
+        NumberAnswer::Number(n) => { reply::give_number(answer, n) }
     }
 }
 
@@ -97,7 +95,17 @@ fn metadata_row(m: PageMetadata) -> [u8; 9]
 {
     let f = words::u32_bytes(m.flight_id);
     let s = words::u32_bytes(m.page_sequence);
-    [f[0], f[1], f[2], f[3], s[0], s[1], s[2], s[3], m.record_count]
+    [
+        f[0],
+        f[1],
+        f[2],
+        f[3],
+        s[0],
+        s[1],
+        s[2],
+        s[3],
+        m.record_count,
+    ]
 }
 
 pub fn lay_metadata(a: PageAnswer, answer: &mut [u8]) -> u32
@@ -113,6 +121,15 @@ pub fn lay_metadata(a: PageAnswer, answer: &mut [u8]) -> u32
     }
 }
 
+// A record in the answer row.
+pub fn give_record(record: FlightRecord, answer: &mut [u8]) -> u32
+    ensures { λ r. ⌜ r ≡ rowReply 48 (now (answer .entry)) (gives (recordBytes «record»)) ⌝ }
+    ensures { λ _. ⌜ now (answer .exit) ≡ rowAfter 48 (now (answer .entry)) (gives (recordBytes «record»)) ⌝ }
+{
+    let row = record.encode();
+    reply::give(answer, &row)
+}
+
 pub fn lay_record(a: RecordAnswer, answer: &mut [u8]) -> u32
     ensures { λ r. ⌜ r ≡ rowReply 48 (now (answer .entry)) (laid recordBytes (toldRecord a)) ⌝ }
     ensures { λ _. ⌜ now (answer .exit) ≡ rowAfter 48 (now (answer .entry)) (laid recordBytes (toldRecord a)) ⌝ }
@@ -121,8 +138,7 @@ pub fn lay_record(a: RecordAnswer, answer: &mut [u8]) -> u32
         return reply::refuse(laws::refused(a.refused), answer.len(), 48);
     }
     let record = a.record;
-    let row = record.encode();
-    reply::give(answer, &row)
+    give_record(record, answer)
 }
 
 pub fn lay_page(a: EncodedPage, answer: &mut [u8]) -> u32

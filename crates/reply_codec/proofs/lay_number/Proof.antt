@@ -1,5 +1,5 @@
 -- `reply_codec::lay_number` meets its contract. Assumes nothing.
-use Rattle.reply.proofs.Rows.{ends, row-refused, row-given, number-long}
+use Rattle.reply.proofs.Rows.{ends, row-refused, row-gave}
 use Rattle.reply_codec.proofs.CodecWays.{number-refused, number-given}
 use borrow.Author.Needs.{needs}
 use Rattle.reply_codec.proofs.lay_number.Statement.{statement}
@@ -14,23 +14,17 @@ refuse-requires c κs = search needs
 enum-known-a-2 : tie.Need-enum-known-a-2
 enum-known-a-2 c = search needs
 
-u32-bytes-requires : tie.Need-u32-bytes-requires
-u32-bytes-requires c κs = search needs
-
-slice-aggregate-give : tie.Need-slice-aggregate-give
-slice-aggregate-give c = search needs
-
-give-requires : tie.Need-give-requires
-give-requires c κs = search needs
+give-number-requires : tie.Need-give-number-requires
+give-number-requires c κs = search needs
 
 returns : tie.Need-returns
-returns c = ends (search (row-refused, row-given, number-refused, number-given, number-long, needs))
+returns c = ends (search (row-refused, row-gave, number-refused, number-given, needs))
 
 same-length : tie.Need-same-length
 same-length c = search needs
 
 returns-2 : tie.Need-returns-2
-returns-2 c = ends (search (row-refused, row-given, number-refused, number-given, number-long, needs))
+returns-2 c = ends (search (row-refused, row-gave, number-refused, number-given, needs))
 
 pub lay-number-spec : {M : Type 1} → statement M
 lay-number-spec =
@@ -39,9 +33,7 @@ lay-number-spec =
     enum-known-a
     refuse-requires
     enum-known-a-2
-    u32-bytes-requires
-    slice-aggregate-give
-    give-requires
+    give-number-requires
     returns
     same-length
     returns-2)
