@@ -1,14 +1,14 @@
 -- The ways out of a call that lays its answer in a row: what it returns, and what it leaves in the row. Assumes nothing.
-use Prim.Native.Nat.{ℕ, _+_, _*_}
-use mathlib.Core.Path.{_≡_, refl, sym, ap, _∙_}
+use Prim.Native.Nat.{ℕ, _+_, _-_, _*_, _≤_, _<_}
+use mathlib.Core.Path.{_≡_, refl, sym, ap, ap₂, _∙_}
 use mathlib.Core.Bool.{Bool, true, false, cond}
 use mathlib.Core.List.{List, _++_, append-nil}
 use mathlib.Core.Option.{Option, none, some}
 use native.Mathlib.Omega.{arith}
 use borrow.Author.Tests.{eq-eqb, ne-eqb}
 use lib.Dec.{eqb}
-use lib.ListN.{length, take, drop, drop-of-length-le}
-use lib.Seq.{take-length}
+use lib.ListN.{length, take, drop, length-append, length-drop, drop-of-length-le}
+use lib.Seq.{take-at, take-length}
 use Rattle.laws.specs.Refusals.{invalidLayout, badLength}
 use Rattle.laws.specs.Answers.{Answer, gives, refuses, refusal, must}
 use Rattle.laws.specs.declared.Refusal.{Refusal}
@@ -71,6 +71,45 @@ module _ (old bytes : List ℕ) where
       → Ends 0 (replyOf (rowed (length bytes) (length old) (gives bytes))) new (leaves old (rowed (length bytes) (length old) (gives bytes)))
   unfolding rowed
   give-whole new l w = rw (eq-eqb (length old) (length bytes) l) (record { returned = refl; left = w ∙ placed-whole old bytes l })
+
+-- ---- give_two
+
+-- two parts as many as the row has take its place
+placed-two : (old head tail : List ℕ) → length old ≡ length head + length tail
+    → placed (placed old 0 head) (length head) tail ≡ head ++ tail
+placed-two old head tail h =
+    let rest : List ℕ = drop (0 + length head) old in
+    let long : length rest ≡ length tail = omega (arith, length-drop (0 + length head) old) in
+    let pasted : take (length head) head ++ rest ≡ head ++ rest = ap (λ (l : List ℕ). l ++ rest) (take-length head) in
+    let first : placed old 0 head ≡ head ++ rest = placed-fits old 0 head (omega arith) ∙ pasted in
+    let whole : length (head ++ rest) ≡ length head + length tail = omega (arith, length-append head rest) in
+    ap (λ (l : List ℕ). placed l (length head) tail) first
+    ∙ placed-fits (head ++ rest) (length head) tail (omega arith)
+    ∙ ap₂ (λ (x y : List ℕ). x ++ y ++ drop (length head + length tail) (head ++ rest)) (take-at head rest (length head) refl) (take-length tail)
+    ∙ ap (λ (l : List ℕ). head ++ tail ++ l) (drop-of-length-le (head ++ rest) {i = length head + length tail} (omega arith))
+    ∙ append-nil (head ++ tail)
+
+module _ (old head tail : List ℕ) where
+  two-length : (x : Refusal) (r : ℕ) → (length old ≡ length head + length tail → ⊥) → x ≡ refusal badLength 0 → r ≡ x .number + 256 * x .fault
+      → Ends r (replyOf (rowed (length head + length tail) (length old) (gives (head ++ tail)))) old (leaves old (rowed (length head + length tail) (length old) (gives (head ++ tail))))
+  unfolding rowed
+  two-length x r l w h = rw (ne-eqb (length old) (length head + length tail) l) (record { returned = h ∙ rw w refl; left = refl })
+
+  pub two-short : (x : Refusal) (r : ℕ) → length old < length head → x ≡ refusal badLength 0 → r ≡ x .number + 256 * x .fault
+      → Ends r (replyOf (rowed (length head + length tail) (length old) (gives (head ++ tail)))) old (leaves old (rowed (length head + length tail) (length old) (gives (head ++ tail))))
+  two-short x r l w h = two-length x r (λ e. omega arith) w h
+
+  pub two-other : (x : Refusal) (r : ℕ) → length head ≤ length old → (length old - length head ≡ length tail → ⊥) → x ≡ refusal badLength 0 → r ≡ x .number + 256 * x .fault
+      → Ends r (replyOf (rowed (length head + length tail) (length old) (gives (head ++ tail)))) old (leaves old (rowed (length head + length tail) (length old) (gives (head ++ tail))))
+  two-other x r l n w h = two-length x r (λ e. n (omega arith)) w h
+
+  pub two-whole : (mid new : List ℕ) → length head ≤ length old → length old - length head ≡ length tail → mid ≡ placed old 0 head
+      → new ≡ placed mid (length head) tail
+      → Ends 0 (replyOf (rowed (length head + length tail) (length old) (gives (head ++ tail)))) new (leaves old (rowed (length head + length tail) (length old) (gives (head ++ tail))))
+  unfolding rowed
+  two-whole mid new l n w k =
+      rw (eq-eqb (length old) (length head + length tail) (omega arith))
+      (record { returned = refl; left = k ∙ ap (λ (l : List ℕ). placed l (length head) tail) w ∙ placed-two old head tail (omega arith) })
 
 -- ---- a call that hands its answer on
 
@@ -144,3 +183,13 @@ row-gave bytes wanted told a old r new w h k = rw w (record { returned = h; left
 pub reply-through : {A : Type 0} (told other : Answer A) (r : ℕ) (new after : List ℕ) → told ≡ other → r ≡ replyOf told → new ≡ after
     → Ends r (replyOf other) new after
 reply-through told other r new after w h k = rw (← w) (record { returned = h; left = k })
+
+-- the same of bytes in two parts
+pub row-two : {A : Type 0} (bytes : A → List ℕ) (wanted : ℕ) (told : Answer A) (old : List ℕ) (r : ℕ) (a : A) (head tail new : List ℕ)
+    (h t : ℕ) → told ≡ gives a → head ++ tail ≡ bytes a → length head ≡ h → length tail ≡ t → h + t ≡ wanted
+    → r ≡ replyOf (rowed (length head + length tail) (length old) (gives (head ++ tail)))
+    → new ≡ leaves old (rowed (length head + length tail) (length old) (gives (head ++ tail)))
+    → Ends r (replyOf (rowed wanted (length old) (laid bytes told))) new (leaves old (rowed wanted (length old) (laid bytes told)))
+row-two bytes wanted told old r a head tail new h t w e p q l x y =
+    let long : length head + length tail ≡ wanted = ap₂ (λ (i j : ℕ). i + j) p q ∙ l in
+    rw (w, ← long, ← e) (record { returned = x; left = y })

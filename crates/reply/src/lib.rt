@@ -4,6 +4,7 @@ use laws::Refusal;
 use store::StoreAnswer;
 ghost use mathlib.Core.Path.{_≡_};
 ghost use Prim.Native.Nat.{_+_, _*_};
+ghost use mathlib.Core.List.{_++_};
 ghost use lib.ListN.{length};
 ghost use Rattle.laws.specs.Answers.{gives, refuses};
 ghost use Rattle.store.specs.Store as Store;
@@ -58,6 +59,22 @@ pub fn give(answer: &mut [u8], bytes: &[u8]) -> u32
         return reply_of(laws::refused(laws::BAD_LENGTH));
     }
     words::put_bytes(answer, 0, bytes);
+    0
+}
+
+// A value's bytes in two parts, one behind the other.
+pub fn give_two(answer: &mut [u8], head: &[u8], tail: &[u8]) -> u32
+    ensures { λ r. ⌜ r ≡ rowReply (length (now (head .entry)) + length (now (tail .entry))) (now (answer .entry)) (gives (now (head .entry) ++ now (tail .entry))) ⌝ }
+    ensures { λ _. ⌜ now (answer .exit) ≡ rowAfter (length (now (head .entry)) + length (now (tail .entry))) (now (answer .entry)) (gives (now (head .entry) ++ now (tail .entry))) ⌝ }
+{
+    if answer.len() < head.len() {
+        return reply_of(laws::refused(laws::BAD_LENGTH));
+    }
+    if answer.len() - head.len() != tail.len() {
+        return reply_of(laws::refused(laws::BAD_LENGTH));
+    }
+    words::put_bytes(answer, 0, head);
+    words::put_bytes(answer, head.len(), tail);
     0
 }
 

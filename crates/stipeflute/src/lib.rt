@@ -4,3 +4,4 @@ pub mod codec;
 pub mod flash;
 pub mod log;
 pub mod sync;
+pub mod text;
