@@ -1,1 +1,3 @@
 pub mod Handed
+pub mod Answers
+pub mod Replies
