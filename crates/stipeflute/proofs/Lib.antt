@@ -1,3 +1,1 @@
 pub mod Handed
-pub mod Answers
-pub mod Replies

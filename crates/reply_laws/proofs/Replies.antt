@@ -20,8 +20,8 @@ use Rattle.assembler.specs.declared.AssembleAnswer.{AssembleAnswer}
 use Rattle.reply.specs.Reply.{isSet, replyOf, laid, rowed, heldAs}
 use Rattle.reply_assembler.specs.Script.{flagged, assembled, took, foundUnfinished, playRow, playFrom, playScript, lastPlayed}
 use Rattle.reply_assembler.specs.declared.Played.{Played}
-use Rattle.stipeflute.specs.Laws.{Listed, Holds, Anything, Proper, RowProper, ZeroGives, EveryAnswer}
-use Rattle.stipeflute.proofs.Answers as Each
+use Rattle.reply_laws.specs.Laws.{Listed, Holds, Anything, Proper, RowProper, ZeroGives, EveryAnswer}
+use Rattle.reply_laws.proofs.Answers as Each
 
 pub row-proper : RowProper
 unfolding rowed

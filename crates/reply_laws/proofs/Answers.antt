@@ -40,7 +40,7 @@ use Rattle.log_lines.specs.Lines.{unsynced}
 use Rattle.reply.specs.Reply.{replyOf, laid, rowed, heldAs}
 use Rattle.reply_codec.specs.CodecRows.{encodedRows}
 use Rattle.reply_text.specs.TextRows.{toldList, linesOf}
-use Rattle.stipeflute.specs.Laws.{Listed, Holds, Anything, Proper, RowProper, ZeroGives}
+use Rattle.reply_laws.specs.Laws.{Listed, Holds, Anything, Proper, RowProper, ZeroGives}
 
 -- what a visit keeps
 abbrev Kept : {S : Type 0} → (S → Type 0) → Visit S → Type 0
