@@ -1,6 +1,5 @@
 //! What is compared for each kind of input.
 
-use crate::blackbox::FlightRecord;
 use crate::compare::Run;
 use crate::images::{self, Image};
 use crate::life::{Board, Op};
@@ -315,8 +314,9 @@ fn ask(run: &mut Run, random: &mut Seeded, image: &Image) {
     {
         row!(run, random, 5, page_flight_id(capacity, bytes, faults, index), "{lens}, page {index}");
     }
-    for used in used {
-        search(run, random, image, used, (capacity, bytes, faults), &lens);
+    for (i, used) in used.into_iter().enumerate() {
+        let rounds = if i == 0 { 6 } else { 2 };
+        search(run, random, image, used, rounds, (capacity, bytes, faults), &lens);
     }
     row!(run, random, 1, read_header(capacity, bytes, faults), "{lens}");
     for _ in 0..3 {
@@ -327,9 +327,9 @@ fn ask(run: &mut Run, random: &mut Seeded, image: &Image) {
     run.bytes("a reading call", &|| lens.clone(), "the lent image", bytes, &before);
 }
 
-fn search(run: &mut Run, random: &mut Seeded, image: &Image, used: u32, lent: (u32, &[u8], &[u8]), lens: &str) {
+fn search(run: &mut Run, random: &mut Seeded, image: &Image, used: u32, rounds: u32, lent: (u32, &[u8], &[u8]), lens: &str) {
     let (capacity, bytes, faults) = lent;
-    for _ in 0..2 {
+    for _ in 0..rounds {
         let flight = flight(random, image);
         let found = row!(run, random, 13, find_flight(capacity, bytes, faults, used, flight), "{lens}, used {used}, flight {flight}");
         let mut pages = random.number();
@@ -414,6 +414,108 @@ fn start_step(run: &mut Run, random: &mut Seeded, capacity: u32, bytes: &[u8], s
     )
 }
 
+// ---- every one of a small set
+
+/// Every sequence of eight pages that are blank, whole, torn or whole with the next flight, before blank pages or before used ones.
+pub const PATTERNS: u64 = 2 * 65_536;
+
+pub fn pattern(run: &mut Run, index: u64) {
+    let mut random = run.begin("patterns", index);
+    let mut image = Image::erased(20_480);
+    let mut flight = 3;
+    for page in 0..16 {
+        let state = match page {
+            0..8 => index >> (2 * page) & 3,
+            _ if index >= 65_536 => 1,
+            _ => 0,
+        };
+        if state == 3 {
+            flight += 1;
+        }
+        let bytes = match state {
+            0 => [0xff; 256],
+            2 => [0; 256],
+            _ => crate::blackbox::encode_page(flight, page as u32, &[]).unwrap(),
+        };
+        image.page_mut(page as u32).copy_from_slice(&bytes);
+    }
+    image.used = if index >= 65_536 { 16 } else { 8 };
+    image.flights = vec![2, 3, 4, 5, flight, flight + 1];
+    run.shape = format!("pattern {index}");
+    let (capacity, bytes, faults) = (20_480, &image.bytes[..], &image.faults[..]);
+    row!(run, &mut random, 9, scan_log(capacity, bytes, faults), "");
+    for used in [image.used, random.below(17) as u32] {
+        search(run, &mut random, &image, used, 1, (capacity, bytes, faults), "");
+    }
+}
+
+/// Every damage of one bit in a page, every header of the ledger that is one bit off or cut short, every number of an ERR text, and
+/// every pair of limits at the calls that take two numbers.
+pub fn exhaustive(run: &mut Run) {
+    let mut random = run.begin("exhaustive", 0);
+    let page = images::whole_page(&mut random, 7, 9);
+    for bit in 0..2048 {
+        let mut page = page;
+        page[bit / 8] ^= 1 << (bit % 8);
+        row!(run, &mut random, 9, decode_page(&page), "bit {bit}");
+    }
+    for number in 0..=255 {
+        row!(run, &mut random, 60, ack_response(number), "{number}");
+    }
+    for capacity in LIMITS {
+        for other in LIMITS {
+            row!(run, &mut random, 5, log_page_address(capacity, other), "{capacity}, {other}");
+            row!(run, &mut random, 5, log_erase_sector_address(capacity, other), "{capacity}, {other}");
+            row!(run, &mut random, 5, bit_location(capacity, other), "{capacity}, {other}");
+        }
+    }
+    headers(run, &mut random);
+    lists(run, &mut random);
+}
+
+fn headers(run: &mut Run, random: &mut Seeded) {
+    let mut image = Image::erased(20_480);
+    let faults = image.faults.clone();
+    for state in 0..64 + 9 {
+        image.ledger_mut()[..8].fill(0xff);
+        if state < 64 {
+            image.ledger_mut()[..8].copy_from_slice(b"FWSYNC01");
+            image.ledger_mut()[state / 8] ^= 1 << (state % 8);
+        } else {
+            image.ledger_mut()[..state - 64].copy_from_slice(&b"FWSYNC01"[..state - 64]);
+        }
+        let bytes = &image.bytes;
+        row!(run, random, 1, read_header(20_480, bytes, &faults), "header {state}");
+        for flight in [0, 1, 8, 9, 32_704, 32_705] {
+            row!(run, random, 1, is_synced(20_480, bytes, &faults, flight), "header {state}, flight {flight}");
+            row!(run, random, 6, next_mark_step(20_480, bytes, &faults, flight), "header {state}, flight {flight}");
+        }
+    }
+}
+
+/// Logs of 0 to 16 flights, of which some are acknowledged: lists of more than eight.
+fn lists(run: &mut Run, random: &mut Seeded) {
+    for flights in 0..=16 {
+        for acknowledged in 0..=flights {
+            let mut image = Image::erased(20_480);
+            image.ledger_mut()[..8].copy_from_slice(b"FWSYNC01");
+            for page in 0..flights {
+                let bytes = crate::blackbox::encode_page(page + 1, 0, &[]).unwrap();
+                image.page_mut(page).copy_from_slice(&bytes);
+                if (page + flights) % 17 < acknowledged {
+                    image.ledger_mut()[8 + page as usize / 8] &= !(1 << (page % 8));
+                }
+            }
+            let (bytes, faults) = (&image.bytes, &image.faults);
+            for recording in 0..=flights + 1 {
+                let asked = format!("{flights} flights, {acknowledged} acknowledged, recording {recording}");
+                row!(run, random, 98, unsynced_flights(20_480, bytes, faults, flights, 1, recording), "{asked}");
+                row!(run, random, 1, all_synced(20_480, bytes, faults, flights, u8::from(recording > flights), recording), "{asked}");
+            }
+        }
+    }
+}
+
 // ---- the writer
 
 /// The image that a script is played on, and the script.
@@ -428,15 +530,55 @@ pub fn life_of(run: &mut Run, index: u64) -> (Image, Vec<Op>) {
     (image, ops)
 }
 
-pub fn records_of(ops: &[Op]) -> impl Iterator<Item = &FlightRecord> {
-    ops.iter().filter_map(|op| if let Op::Offer(record) = op { Some(record) } else { None })
-}
-
 pub fn life(run: &mut Run, board: &mut Board, index: u64) {
     let (image, ops) = life_of(run, index);
-    let layout = layout::StorageLayout::new(image.capacity).unwrap();
     let script: Vec<u8> = ops.iter().flat_map(theirs::script_row).collect();
-    let mut after = image.bytes.clone();
-    let told = theirs::play(board, layout, &mut after, &ops);
-    let _ = (&script, &told);
+    played(run, board, image.capacity, &image.bytes, &script, ops.len());
+}
+
+/// A row of a script with a byte that no operation has, a script cut short, or lengths that don't fit: refused, nothing altered.
+pub fn no_script(run: &mut Run, board: &mut Board, index: u64) {
+    let (image, ops) = life_of(run, index);
+    let mut random = run.begin("no_scripts", index);
+    let ops = &ops[..ops.len().min(4)];
+    let mut script: Vec<u8> = ops.iter().flat_map(theirs::script_row).collect();
+    let (mut capacity, mut rows) = (image.capacity, ops.len());
+    match random.below(6) {
+        0 => script.truncate(random.below(script.len() as u64) as usize),
+        1 => rows = random.pick(&[0, rows + 1, rows.saturating_sub(1)]),
+        2 => capacity = random.number(),
+        _ => {
+            // A byte that says nothing in its row, or one whose value no row has.
+            let row = random.below(ops.len() as u64) as usize * theirs::SCRIPT_ROW;
+            let at = row + random.pick(&[0, 1, 2, 3, 4, 5, 6, 7, 16, 31, 80, 81, 287]);
+            script[at] = random.byte();
+            if theirs::script_op(&script[row..row + theirs::SCRIPT_ROW]).is_some() {
+                script[row + 7] = random.from_to(1, 255) as u8;
+            }
+        }
+    }
+    played(run, board, capacity, &image.bytes, &script, rows);
+}
+
+#[cfg(rig)]
+fn played(run: &mut Run, board: &mut Board, capacity: u32, image: &[u8], script: &[u8], rows: usize) {
+    let (mut one, mut other) = (image.to_vec(), image.to_vec());
+    let asked = || format!("{} rows", script.len() / theirs::SCRIPT_ROW);
+    let len = rows * theirs::PLAYED_ROW;
+    run.row(
+        "rig",
+        len,
+        asked,
+        |answer| ours::rig(capacity, &mut one, script, answer),
+        |answer| theirs::rig(board, capacity, &mut other, script, answer),
+    );
+    run.bytes("rig", &asked, "the image", &one, &other);
+}
+
+#[cfg(not(rig))]
+fn played(run: &mut Run, board: &mut Board, capacity: u32, image: &[u8], script: &[u8], rows: usize) {
+    let mut other = image.to_vec();
+    let mut answer = vec![0; rows * theirs::PLAYED_ROW];
+    let reply = theirs::rig(board, capacity, &mut other, script, &mut answer);
+    run.count("rig (the Rust alone)", reply);
 }

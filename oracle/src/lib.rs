@@ -26,3 +26,4 @@ pub mod ours;
 pub mod scripts;
 pub mod seeded;
 pub mod theirs;
+pub mod lists;

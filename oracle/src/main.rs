@@ -4,6 +4,7 @@
 use oracle::compare::Run;
 use oracle::kinds;
 use oracle::life::Board;
+use oracle::lists::Player;
 
 struct Asked {
     images: u64,
@@ -11,10 +12,12 @@ struct Asked {
     seed: u64,
     only: Option<String>,
     index: u64,
+    make_list: Option<String>,
+    answers: Option<String>,
 }
 
 fn arguments() -> Asked {
-    let mut asked = Asked { images: 1000, lives: 200, seed: 1, only: None, index: 0 };
+    let mut asked = Asked { images: 1000, lives: 200, seed: 1, only: None, index: 0, make_list: None, answers: None };
     let mut words = std::env::args().skip(1);
     while let Some(word) = words.next() {
         let Some(value) = words.next() else { usage(&word) };
@@ -25,6 +28,8 @@ fn arguments() -> Asked {
             "--seed" => asked.seed = number(),
             "--index" => asked.index = number(),
             "--only" => asked.only = Some(value),
+            "--make-list" => asked.make_list = Some(value),
+            "--answers" => asked.answers = Some(value),
             _ => usage(&word),
         }
     }
@@ -33,7 +38,10 @@ fn arguments() -> Asked {
 
 fn usage(word: &str) -> ! {
     eprintln!("oracle: {word}?");
-    eprintln!("usage: oracle [--images N] [--lives N] [--seed N] [--only KIND --index N]");
+    eprintln!("usage: oracle [--images N] [--lives N] [--seed N]");
+    eprintln!("       oracle --only KIND --index N [--seed N]");
+    eprintln!("       oracle --make-list images|lives [--images N] [--lives N] [--seed N]");
+    eprintln!("       oracle --answers LIST");
     std::process::exit(2);
 }
 
@@ -46,8 +54,23 @@ fn one(run: &mut Run, board: &mut Board, kind: &str, index: u64) {
         "store" => kinds::store(run, index),
         "images" => kinds::image(run, index),
         "large" => kinds::large(run, index),
+        "patterns" => kinds::pattern(run, index),
+        "exhaustive" => kinds::exhaustive(run),
         "lives" => kinds::life(run, board, index),
+        "no_scripts" => kinds::no_script(run, board, index),
         _ => usage(kind),
+    }
+}
+
+/// The Rust's answers to a list, which are also the exports'.
+fn answers(run: &mut Run, list: &str) {
+    let text = std::fs::read_to_string(list).unwrap_or_else(|error| usage(&format!("{list}: {error}")));
+    let mut player = Player::new();
+    for (number, line) in text.lines().enumerate() {
+        run.shape = format!("line {} of {list}", number + 1);
+        if let Some(answer) = player.line(run, line) {
+            println!("{answer}");
+        }
     }
 }
 
@@ -55,15 +78,29 @@ fn main() {
     let asked = arguments();
     let mut run = Run::new(asked.seed);
     let mut board = Board::new();
+    if let Some(kind) = asked.make_list {
+        let count = if kind == "lives" { asked.lives } else { asked.images };
+        oracle::lists::make(asked.seed, &kind, count).iter().for_each(|line| println!("{line}"));
+        return;
+    }
+    if let Some(list) = asked.answers {
+        answers(&mut run, &list);
+        return;
+    }
     if let Some(kind) = asked.only {
         one(&mut run, &mut board, &kind, asked.index);
         println!("no difference");
         return;
     }
     let began = std::time::Instant::now();
+    one(&mut run, &mut board, "exhaustive", 0);
     for index in 0..asked.images {
         for kind in ["codec", "numbers", "lines", "assembler", "store", "images"] {
             one(&mut run, &mut board, kind, index);
+        }
+        if index < kinds::PATTERNS {
+            // Every pattern once where there are as many images, else some that are spread.
+            one(&mut run, &mut board, "patterns", index * (kinds::PATTERNS / asked.images.min(kinds::PATTERNS)));
         }
         // A large image costs as much as thousands of small ones.
         if index % 5000 == 100 {
@@ -74,6 +111,9 @@ fn main() {
     let began = std::time::Instant::now();
     for index in 0..asked.lives {
         one(&mut run, &mut board, "lives", index);
+        if index % 4 == 0 {
+            one(&mut run, &mut board, "no_scripts", index);
+        }
     }
     println!("{} lives and scripts in {:.1?}", asked.lives, began.elapsed());
     run.table();

@@ -3,6 +3,26 @@
 
 use crate::blackbox::FlightRecord;
 
+#[cfg(rig)]
+unsafe extern "C" {
+    fn stipeflute_rig(
+        capacity_bytes: u32,
+        image: *mut u8,
+        image_len: usize,
+        script: *const u8,
+        script_len: usize,
+        answer: *mut u8,
+        answer_len: usize,
+    ) -> u32;
+}
+
+/// The writer's player.
+#[cfg(rig)]
+pub fn rig(capacity_bytes: u32, image: &mut [u8], script: &[u8], answer: &mut [u8]) -> u32 {
+    let (image_at, image_len) = (image.as_mut_ptr(), image.len());
+    unsafe { stipeflute_rig(capacity_bytes, image_at, image_len, script.as_ptr(), script.len(), answer.as_mut_ptr(), answer.len()) }
+}
+
 unsafe extern "C" {
     fn stipeflute_crc32(bytes: *const u8, bytes_len: usize, answer: *mut u8, answer_len: usize) -> u32;
     fn stipeflute_record_encode(

@@ -657,6 +657,43 @@ pub fn played_row(outcome: Outcome, state: State) -> [u8; PLAYED_ROW] {
     row
 }
 
+/// The operation that a row says, if the row is the bytes of one and nothing else.
+pub fn script_op(row: &[u8]) -> Option<Op> {
+    let number = |at: usize| u32::from_le_bytes(row[at..at + 4].try_into().unwrap());
+    let programs = || {
+        let next = match row[3] {
+            0 => Next::Busy,
+            1 => Next::Fault,
+            _ => Next::Cut,
+        };
+        Programs { succeed: number(12), next, keep: row[32..].try_into().unwrap() }
+    };
+    let op = match row[2] {
+        0 => Op::Offer(FlightRecord::decode(row[32..80].try_into().unwrap())),
+        1 => Op::Drain { armed: row[4] != 0, record_while_disarmed: row[5] != 0, programs: programs() },
+        2 => Op::WritePending { programs: programs() },
+        3 => Op::PowerOn,
+        4 => Op::Recover { next_page: number(8), next_flight: number(12), writable: row[6] != 0 },
+        5 => Op::ResetAfterErase,
+        _ => Op::Flush { write_back_pending: row[6] != 0, now_ms: u64::from(number(8)) | u64::from(number(12)) << 32 },
+    };
+    (script_row(&op) == row).then_some(op)
+}
+
+/// A script played from a writer before its first power-on: a row of `answer` for each of its rows.
+pub fn rig(board: &mut Board, capacity_bytes: u32, image: &mut [u8], script: &[u8], answer: &mut [u8]) -> u32 {
+    let told = on_image(capacity_bytes, image, &[(script.len() % SCRIPT_ROW, 0)]).and_then(|layout| {
+        let ops: Option<Vec<Op>> = script.chunks(SCRIPT_ROW).map(script_op).collect();
+        let ops = ops.ok_or(Refused(17, 0))?;
+        lengths(&[(answer.len(), ops.len() * PLAYED_ROW)])?;
+        Ok((layout, ops))
+    });
+    match told {
+        Ok((layout, ops)) => tell(answer, Ok(play(board, layout, image, &ops))),
+        Err(refused) => tell(answer, Err(refused)),
+    }
+}
+
 /// The operations played from a writer before its first power-on.
 pub fn play(board: &mut Board, layout: StorageLayout, image: &mut [u8], ops: &[Op]) -> Vec<u8> {
     board.power_off();
