@@ -76,11 +76,11 @@ fn link_archive(root: &Path) {
     println!("cargo:rerun-if-env-changed=STIPEFLUTE_LIB");
     let folder = match env::var("STIPEFLUTE_LIB") {
         Ok(folder) => PathBuf::from(folder),
-        Err(_) => root.join("../target/staticlib"),
+        Err(_) => root.join("target/archive"),
     };
     let archive = folder.join("libstipeflute.a");
     if !archive.exists() {
-        stop(&format!("{} is missing; rt staticlib stipeflute writes it", archive.display()));
+        stop(&format!("{} is missing; oracle/archive builds it", archive.display()));
     }
     println!("cargo:rerun-if-changed={}", archive.display());
     println!("cargo:rustc-link-search=native={}", fs::canonicalize(folder).unwrap().display());

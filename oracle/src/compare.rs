@@ -1,6 +1,7 @@
 //! One call on both sides, compared byte by byte; the first difference ends the run with a recipe.
 
 use crate::seeded::Seeded;
+use crate::theirs::{PLAYED_ROW, SCRIPT_ROW};
 use std::collections::BTreeMap;
 use std::string::String;
 use std::vec::Vec;
@@ -21,6 +22,7 @@ pub struct Run {
     /// How the input at hand was made.
     pub shape: String,
     tallies: BTreeMap<&'static str, Tally>,
+    outcomes: BTreeMap<&'static str, u64>,
     one: Vec<u8>,
     other: Vec<u8>,
 }
@@ -31,6 +33,7 @@ impl Run {
             recipe: Recipe { seed, kind: "", index: 0 },
             shape: String::new(),
             tallies: BTreeMap::new(),
+            outcomes: BTreeMap::new(),
             one: Vec::new(),
             other: Vec::new(),
         }
@@ -118,6 +121,36 @@ impl Run {
         std::process::exit(1);
     }
 
+    /// Counts what the operations of a script came to, by the rows that were told of them.
+    pub fn played(&mut self, script: &[u8]) {
+        let told = std::mem::take(&mut self.other);
+        for (row, told) in script.chunks(SCRIPT_ROW).zip(told.chunks(PLAYED_ROW)) {
+            let report = |at: usize| told[at..at + 4] != [0; 4];
+            let outcome = match (row[2], told[0]) {
+                (0, 0) => "offer",
+                (0, _) => "offer refused 16",
+                (1, 1) => "drain cut",
+                (1, _) if report(16) => "drain with a write fault",
+                (1, _) if report(12) => "drain that drops records",
+                (1, _) if report(8) => "drain that writes pages",
+                (1, _) => "drain",
+                (2, 0) => "write_pending, nothing",
+                (2, 1) => "write_pending, written",
+                (2, 2) => "write_pending, region full",
+                (2, 3) => "write_pending, program failed",
+                (2, _) => "write_pending cut",
+                (3, _) if told[1] == 0 => "power-on, not writable",
+                (3, _) => "power-on",
+                (4, _) => "recover",
+                (5, _) => "reset_after_erase",
+                (_, 0) => "flush_write_back, not now",
+                _ => "flush_write_back, flush",
+            };
+            *self.outcomes.entry(outcome).or_insert(0) += 1;
+        }
+        self.other = told;
+    }
+
     /// How often each call was answered and refused, so that a reader sees what was compared.
     pub fn table(&self) {
         println!("calls compared, by refusal (0 is an answer):");
@@ -125,6 +158,9 @@ impl Run {
             let parts: Vec<String> =
                 tally.iter().enumerate().filter(|(_, times)| **times != 0).map(|(number, times)| format!("{number}: {times}")).collect();
             println!("  {call:24} {}", parts.join(", "));
+        }
+        for (outcome, times) in &self.outcomes {
+            println!("  {outcome:32} {times}");
         }
     }
 }

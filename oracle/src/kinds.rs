@@ -178,6 +178,10 @@ pub fn store(run: &mut Run, index: u64) {
     let bytes = lengthened(&image.bytes, len);
     let faults = lengthened(&image.faults, faults_len);
     let address = address(random, capacity);
+    let mut faults = faults;
+    if let Some(fault) = faults.get_mut(address as usize / 256).filter(|_| random.one_in(3)) {
+        *fault = random.byte();
+    }
     let mut target = [0u8; 300];
     random.fill(&mut target);
     let target_len = match random.below(4) {
@@ -560,12 +564,14 @@ pub fn no_script(run: &mut Run, board: &mut Board, index: u64) {
     played(run, board, capacity, &image.bytes, &script, rows);
 }
 
-#[cfg(rig)]
 fn played(run: &mut Run, board: &mut Board, capacity: u32, image: &[u8], script: &[u8], rows: usize) {
+    if !ours::HAS_RIG {
+        return;
+    }
     let (mut one, mut other) = (image.to_vec(), image.to_vec());
     let asked = || format!("{} rows", script.len() / theirs::SCRIPT_ROW);
     let len = rows * theirs::PLAYED_ROW;
-    run.row(
+    let reply = run.row(
         "rig",
         len,
         asked,
@@ -573,12 +579,7 @@ fn played(run: &mut Run, board: &mut Board, capacity: u32, image: &[u8], script:
         |answer| theirs::rig(board, capacity, &mut other, script, answer),
     );
     run.bytes("rig", &asked, "the image", &one, &other);
-}
-
-#[cfg(not(rig))]
-fn played(run: &mut Run, board: &mut Board, capacity: u32, image: &[u8], script: &[u8], rows: usize) {
-    let mut other = image.to_vec();
-    let mut answer = vec![0; rows * theirs::PLAYED_ROW];
-    let reply = theirs::rig(board, capacity, &mut other, script, &mut answer);
-    run.count("rig (the Rust alone)", reply);
+    if reply == 0 {
+        run.played(script);
+    }
 }

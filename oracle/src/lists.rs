@@ -133,8 +133,10 @@ impl Player {
         format!("0 {}", hex(&told))
     }
 
-    #[cfg(rig)]
     fn exports_play(&mut self, run: &mut Run, line: &str, told: &[u8]) {
+        if !ours::HAS_RIG {
+            return;
+        }
         let mut image = self.began.clone();
         let mut answer = vec![0u8; self.script.len() / theirs::SCRIPT_ROW * theirs::PLAYED_ROW];
         let reply = ours::rig(self.image.capacity, &mut image, &self.script, &mut answer);
@@ -144,9 +146,6 @@ impl Player {
         run.bytes("rig", &|| line.into(), "answer", &answer[answer.len() - theirs::PLAYED_ROW..], told);
         run.bytes("rig", &|| line.into(), "the image", &image, &self.image.bytes);
     }
-
-    #[cfg(not(rig))]
-    fn exports_play(&mut self, _run: &mut Run, _line: &str, _told: &[u8]) {}
 
     fn asks(&mut self, run: &mut Run, line: &str, word: &str, n: &[u32]) -> String {
         let (c, bytes, faults) = (self.image.capacity, &self.image.bytes[..], &self.image.faults[..]);

@@ -3,6 +3,9 @@
 
 use crate::blackbox::FlightRecord;
 
+/// Whether the archive has the writer's player.
+pub const HAS_RIG: bool = cfg!(rig);
+
 #[cfg(rig)]
 unsafe extern "C" {
     fn stipeflute_rig(
@@ -21,6 +24,11 @@ unsafe extern "C" {
 pub fn rig(capacity_bytes: u32, image: &mut [u8], script: &[u8], answer: &mut [u8]) -> u32 {
     let (image_at, image_len) = (image.as_mut_ptr(), image.len());
     unsafe { stipeflute_rig(capacity_bytes, image_at, image_len, script.as_ptr(), script.len(), answer.as_mut_ptr(), answer.len()) }
+}
+
+#[cfg(not(rig))]
+pub fn rig(_capacity_bytes: u32, _image: &mut [u8], _script: &[u8], _answer: &mut [u8]) -> u32 {
+    panic!("the archive has no player")
 }
 
 unsafe extern "C" {

@@ -74,7 +74,17 @@ fn step(random: &mut Seeded, manner: &Manner, pages: u32, now_ms: &mut u64, ops:
             ops.push(drain(random, manner));
         }
         10..=15 => ops.push(drain(random, manner)),
-        16..=19 => ops.push(Op::WritePending { programs: programs(random, manner.trouble) }),
+        16 => ops.push(Op::WritePending { programs: programs(random, manner.trouble) }),
+        17..=19 => {
+            // A page that a drain leaves waiting, and a write_pending that may fail too.
+            for _ in 0..random.from_to(5, 8) {
+                ops.push(Op::Offer(offered(random, true)));
+            }
+            let held_up = Programs { succeed: 0, next: random.pick(&[Next::Busy, Next::Fault]), keep: mask(random) };
+            ops.push(Op::Drain { armed: true, record_while_disarmed: manner.bench, programs: held_up });
+            let trouble = if manner.trouble == 0 { 0 } else { 2 };
+            ops.push(Op::WritePending { programs: programs(random, trouble) });
+        }
         20 => ops.push(Op::ResetAfterErase),
         21 => ops.push(Op::Recover {
             next_page: if random.flag() { random.below(u64::from(pages) + 2) as u32 } else { random.number() },
