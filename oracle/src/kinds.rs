@@ -526,7 +526,8 @@ fn lists(run: &mut Run, random: &mut Seeded) {
 pub fn life_of(run: &mut Run, index: u64) -> (Image, Vec<Op>) {
     let mut random = run.begin("lives", index);
     let is_life = index % 4 != 3;
-    let capacity = images::capacity(&mut random);
+    // Small logs fill, larger ones hold a whole life.
+    let capacity = random.pick(&[20_480, 20_480, 24_576, 61_440]);
     let image =
         if is_life && !random.one_in(8) { Image::erased(capacity) } else { theirs::without_faults(images::image(&mut random, capacity)) };
     let ops = scripts::script(&mut random, is_life, image.pages());

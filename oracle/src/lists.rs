@@ -16,7 +16,8 @@
 //!   page P | record P I   decode_page and record_from_page of the page at P
 //!   crc A N            the checksum of N bytes from address A on
 //!
-//! Lines that play the writer print what the player tells after them:
+//! Lines that play the writer print what the player tells after them, in decimal: outcome, writable, recording, unfinished (a flag),
+//! flush start (a flag), queue length; pages_written, records_dropped, write_faults; next page, next flight, unfinished flight, flush start:
 //!
 //!   power | offers N K S | drain A D S X M | write S X M | recover P F W | reset | flush B C
 //!
@@ -70,6 +71,14 @@ fn operations(word: &str, n: &[u32]) -> Option<Vec<Op>> {
         _ => return None,
     };
     Some(vec![op])
+}
+
+/// A row that the player tells, as numbers.
+fn told_text(row: &[u8]) -> String {
+    let mut parts: Vec<String> = row[..6].iter().map(u8::to_string).collect();
+    parts.extend(row[8..32].chunks(4).map(|word| u32::from_le_bytes(word.try_into().unwrap()).to_string()));
+    parts.push(u64::from_le_bytes(row[32..].try_into().unwrap()).to_string());
+    parts.join(" ")
 }
 
 /// Plays a list, line by line, on the Rust and on the exports.
@@ -130,7 +139,7 @@ impl Player {
         let outcome = self.board.play(layout, &mut self.image.bytes, op);
         let told = theirs::played_row(outcome, self.board.state());
         self.exports_play(run, line, &told);
-        format!("0 {}", hex(&told))
+        told_text(&told)
     }
 
     fn exports_play(&mut self, run: &mut Run, line: &str, told: &[u8]) {
