@@ -9,12 +9,15 @@
 //!   flip A B           bit B of the byte at A turned over
 //!   fault I V          fault byte I is V
 //!
-//! Lines that ask print the reply and the row that include/stipeflute.h gives the call, in hexadecimal:
+//! Lines that ask print the reply and the row that include/stipeflute.h gives the call, in hexadecimal, without the zeros behind a text:
 //!
 //!   scan | flight I | find U F | older E | header | bit F | synced F | plan F | list U S R | all U S R | ack U S R F P
 //!   step K A V M Y     start_mark_step of kind K at address A with value V, mask number M and reply Y
 //!   page P | record P I   decode_page and record_from_page of the page at P
 //!   crc A N            the checksum of N bytes from address A on
+//!   layout C | sectors C | ledger C | address C P | erase C K | place C F   of any capacity; place is bit_location
+//!   scratch | err N    the scratch page, and the text for refusal N
+//!   lines K M F        the lines of K flights, more M; entry i is flight F + i, start (i + 1) F mod 2^32, i pages
 //!
 //! Lines that play the writer print what the player tells after them, in decimal: outcome, writable, recording, unfinished (a flag),
 //! flush start (a flag), queue length; pages_written, records_dropped, write_faults; next page, next flight, unfinished flight, flush start:
@@ -51,6 +54,11 @@ pub fn mask_number(m: u32) -> [u8; FLASH_PAGE_LEN] {
 fn whole_page(page: u32, flight: u32, sequence: u32, count: u32) -> [u8; FLASH_PAGE_LEN] {
     let records: Vec<FlightRecord> = (0..count).map(|i| record_number(5 * page + i)).collect();
     encode_page(flight, sequence, &records).unwrap()
+}
+
+/// The eight entries of a `lines` line.
+fn entries(flight: u32) -> Vec<u8> {
+    (0..8u32).flat_map(|i| [flight.wrapping_add(i), flight.wrapping_mul(i + 1), i]).flat_map(u32::to_le_bytes).collect()
 }
 
 /// A line's writer operations, if it has any.
@@ -183,6 +191,15 @@ impl Player {
             "page" => both!(9, decode_page(self.image.page(n[0]))),
             "record" => both!(48, record_from_page(self.image.page(n[0]), n[1])),
             "crc" => both!(4, crc32(&bytes[n[0] as usize..][..n[1] as usize])),
+            "layout" => both!(20, storage_layout(n[0])),
+            "sectors" => both!(4, log_sector_count(n[0])),
+            "ledger" => both!(4, sync_ledger_address(n[0])),
+            "address" => both!(5, log_page_address(n[0], n[1])),
+            "erase" => both!(5, log_erase_sector_address(n[0], n[1])),
+            "place" => both!(5, bit_location(n[0], n[1])),
+            "scratch" => both!(256, scratch_test_page()),
+            "err" => both!(60, ack_response(n[0] as u8)),
+            "lines" => both!(476, unsynced_lines(&entries(n[2]), n[0], n[1] as u8)),
             "ack" => run.row(
                 "check_ack",
                 0,
@@ -193,7 +210,11 @@ impl Player {
             "step" => return self.steps(run, line, n),
             _ => panic!("a line of no list: {line}"),
         };
-        if reply != 0 || run.last_row().is_empty() { format!("{reply}") } else { format!("0 {}", hex(run.last_row())) }
+        let mut row = run.last_row();
+        if reply == 0 && matches!(word, "err" | "lines") {
+            row = &row[..4 + row[0] as usize + 256 * row[1] as usize];
+        }
+        if reply != 0 || row.is_empty() { format!("{reply}") } else { format!("0 {}", hex(row)) }
     }
 
     fn steps(&mut self, run: &mut Run, line: &str, n: &[u32]) -> String {
@@ -230,10 +251,28 @@ pub fn make(seed: u64, kind: &str, count: u64) -> Vec<String> {
         match kind {
             "images" => make_image(&mut random, &mut lines),
             "lives" => make_life(&mut random, &mut lines, index % 3 == 2),
+            "calls" => make_calls(&mut random, &mut lines, index),
             _ => panic!("no such list: {kind}"),
         }
     }
     lines
+}
+
+/// Calls that need no image.
+fn make_calls(random: &mut Seeded, lines: &mut Vec<String>, index: u64) {
+    if index == 0 {
+        lines.push("scratch".into());
+        lines.extend((0..=17).map(|number| format!("err {number}")));
+    }
+    let capacity = if random.flag() { 4096 * random.from_to(4, 4098) as u32 } else { random.number() };
+    lines.push(format!("layout {capacity}"));
+    lines.push(format!("sectors {capacity}"));
+    lines.push(format!("ledger {capacity}"));
+    let pages = StorageLayout::new(capacity).map_or(16, |layout| layout.log_page_count);
+    lines.push(format!("address {capacity} {}", random.pick(&[0, pages - 1, pages])));
+    lines.push(format!("erase {capacity} {}", random.pick(&[0, capacity / 4096 - capacity.min(4096) / 4096, pages / 16, pages / 16 + 1])));
+    lines.push(format!("place {capacity} {}", random.pick(&[0, 1, 8, 9, 32_704, 32_705, random.clone().number()])));
+    lines.push(format!("lines {} {} {}", random.below(10), random.below(3), random.number()));
 }
 
 fn make_image(random: &mut Seeded, lines: &mut Vec<String>) {

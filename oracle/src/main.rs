@@ -40,7 +40,7 @@ fn usage(word: &str) -> ! {
     eprintln!("oracle: {word}?");
     eprintln!("usage: oracle [--images N] [--lives N] [--seed N]");
     eprintln!("       oracle --only KIND --index N [--seed N]");
-    eprintln!("       oracle --make-list images|lives [--images N] [--lives N] [--seed N]");
+    eprintln!("       oracle --make-list calls|images|lives [--images N] [--lives N] [--seed N]");
     eprintln!("       oracle --answers LIST");
     std::process::exit(2);
 }
