@@ -1,5 +1,5 @@
 //! Measures the Rust and the C exports in one run, on the same inputs, both built for release, and prints the table of
-//! docs/PERFORMANCE.md. Each round times one side and then the other; the medians of the rounds are compared.
+//! docs/PERFORMANCE.md. Each round times one side and then the other; the ratio is the median of the rounds' ratios.
 //!
 //! The exports lay their answer into a row; the Rust's functions return a value. Buffers are warm: each was read in the round before.
 
@@ -12,8 +12,8 @@ use oracle::{images, log_sync, ours, page, records, sync_ledger, theirs};
 use std::hint::black_box;
 use std::time::{Duration, Instant};
 
-const ROUNDS: usize = 21;
-const ROUND: Duration = Duration::from_millis(10);
+const ROUNDS: usize = 101;
+const ROUND: Duration = Duration::from_millis(4);
 
 /// Calls that take about one round's time.
 fn calls_in_a_round(call: &mut dyn FnMut()) -> u32 {
@@ -55,8 +55,8 @@ fn measure(what: &str, input: &str, mut theirs: impl FnMut(), mut ours: impl FnM
         rust.push(timed(&mut theirs, their_calls).as_secs_f64() / f64::from(their_calls));
         rattle.push(timed(&mut ours, our_calls).as_secs_f64() / f64::from(our_calls));
     }
-    let (rust, rattle) = (median(rust), median(rattle));
-    println!("| {what} | {input} | {} | {} | {:.2} |", shown(rust), shown(rattle), rust / rattle);
+    let ratio = median(rust.iter().zip(&rattle).map(|(rust, rattle)| rust / rattle).collect());
+    println!("| {what} | {input} | {} | {} | {ratio:.2} |", shown(median(rust)), shown(median(rattle)));
 }
 
 fn codec(random: &mut Seeded) {
