@@ -1,6 +1,8 @@
 //! Measures the Rust and the C exports in one run, on the same inputs, both built for release, and prints the table of
 //! docs/PERFORMANCE.md. Each round times one side and then the other; the ratio is the median of the rounds' ratios.
 //!
+//! Times are those of this thread on its processor, so that other programs on the machine weigh little.
+//!
 //! The exports lay their answer into a row; the Rust's functions return a value. Buffers are warm: each was read in the round before.
 
 use oracle::blackbox::{self, FlightRecord};
@@ -10,10 +12,10 @@ use oracle::life::{Board, Next, Op, Programs};
 use oracle::seeded::Seeded;
 use oracle::{images, log_sync, ours, page, records, sync_ledger, theirs};
 use std::hint::black_box;
-use std::time::{Duration, Instant};
+use std::time::Duration;
 
-const ROUNDS: usize = 101;
-const ROUND: Duration = Duration::from_millis(4);
+const ROUNDS: usize = 151;
+const ROUND: Duration = Duration::from_millis(2);
 
 /// Calls that take about one round's time.
 fn calls_in_a_round(call: &mut dyn FnMut()) -> u32 {
@@ -28,11 +30,30 @@ fn calls_in_a_round(call: &mut dyn FnMut()) -> u32 {
 }
 
 fn timed(call: &mut dyn FnMut(), calls: u32) -> Duration {
-    let began = Instant::now();
+    let began = thread_time();
     for _ in 0..calls {
         call();
     }
-    began.elapsed()
+    thread_time() - began
+}
+
+#[repr(C)]
+struct Timespec {
+    seconds: i64,
+    nanoseconds: i64,
+}
+
+unsafe extern "C" {
+    fn clock_gettime(clock: i32, time: *mut Timespec) -> i32;
+}
+
+/// Linux's CLOCK_THREAD_CPUTIME_ID.
+const THREAD_CLOCK: i32 = 3;
+
+fn thread_time() -> Duration {
+    let mut time = Timespec { seconds: 0, nanoseconds: 0 };
+    assert_eq!(unsafe { clock_gettime(THREAD_CLOCK, &mut time) }, 0);
+    Duration::new(time.seconds as u64, time.nanoseconds as u32)
 }
 
 fn median(mut times: Vec<f64>) -> f64 {
@@ -48,15 +69,21 @@ fn shown(seconds: f64) -> String {
     }
 }
 
-fn measure(what: &str, input: &str, mut theirs: impl FnMut(), mut ours: impl FnMut()) {
+fn line(what: &str, input: &str, rust: &[f64], rattle: &[f64]) {
+    let ratio = median(rust.iter().zip(rattle).map(|(rust, rattle)| rust / rattle).collect());
+    println!("| {what} | {input} | {} | {} | {ratio:.2} |", shown(median(rust.to_vec())), shown(median(rattle.to_vec())));
+}
+
+/// Prints a line of the table and gives each side's times, round by round.
+fn measure(what: &str, input: &str, mut theirs: impl FnMut(), mut ours: impl FnMut()) -> (Vec<f64>, Vec<f64>) {
     let (their_calls, our_calls) = (calls_in_a_round(&mut theirs), calls_in_a_round(&mut ours));
     let (mut rust, mut rattle) = (Vec::new(), Vec::new());
     for _ in 0..ROUNDS {
         rust.push(timed(&mut theirs, their_calls).as_secs_f64() / f64::from(their_calls));
         rattle.push(timed(&mut ours, our_calls).as_secs_f64() / f64::from(our_calls));
     }
-    let ratio = median(rust.iter().zip(&rattle).map(|(rust, rattle)| rust / rattle).collect());
-    println!("| {what} | {input} | {} | {} | {ratio:.2} |", shown(median(rust)), shown(median(rattle)));
+    line(what, input, &rust, &rattle);
+    (rust, rattle)
 }
 
 fn codec(random: &mut Seeded) {
@@ -212,27 +239,33 @@ fn drain(random: &mut Seeded) {
         println!("| drain | the archive has no player | | | |");
         return;
     }
-    for (said, drains) in [("32 passes of 16 records, played", true), ("the same offers without drains", false)] {
-        let script = passes(random, 32, 16, drains);
-        let erased = Image::erased(61_440).bytes;
-        let mut board = Board::new();
-        let (mut one, mut other) = (erased.clone(), erased.clone());
-        let mut row = vec![0u8; script.len() / theirs::SCRIPT_ROW * theirs::PLAYED_ROW];
-        let mut other_row = row.clone();
-        measure(
-            "drain",
-            said,
-            || {
-                other.copy_from_slice(&erased);
-                black_box(theirs::rig(&mut board, 61_440, &mut other, black_box(&script), &mut other_row));
-            },
-            || {
-                one.copy_from_slice(&erased);
-                black_box(ours::rig(61_440, &mut one, black_box(&script), &mut row));
-            },
-        );
-        assert!(one == other && row == other_row, "the two played differently");
-    }
+    let with = play("32 passes of 16 records, played", &passes(random, 32, 16, true));
+    let without = play("the same offers without drains", &passes(random, 32, 16, false));
+    let less = |a: &[f64], b: &[f64]| -> Vec<f64> { a.iter().zip(b).map(|(a, b)| a - b).collect() };
+    line("drain", "the 32 drains alone, by difference", &less(&with.0, &without.0), &less(&with.1, &without.1));
+}
+
+/// A script on both players: each tests and reads its rows, plays them and tells 40 bytes of each.
+fn play(said: &str, script: &[u8]) -> (Vec<f64>, Vec<f64>) {
+    let erased = Image::erased(61_440).bytes;
+    let mut board = Board::new();
+    let (mut one, mut other) = (erased.clone(), erased.clone());
+    let mut row = vec![0u8; script.len() / theirs::SCRIPT_ROW * theirs::PLAYED_ROW];
+    let mut other_row = row.clone();
+    let times = measure(
+        "rig",
+        said,
+        || {
+            other.copy_from_slice(&erased);
+            black_box(theirs::rig(&mut board, 61_440, &mut other, black_box(script), &mut other_row));
+        },
+        || {
+            one.copy_from_slice(&erased);
+            black_box(ours::rig(61_440, &mut one, black_box(script), &mut row));
+        },
+    );
+    assert!(one == other && row == other_row, "the two played differently");
+    times
 }
 
 fn main() {

@@ -557,7 +557,8 @@ pub fn no_script(run: &mut Run, board: &mut Board, index: u64) {
             let row = random.below(ops.len() as u64) as usize * theirs::SCRIPT_ROW;
             let at = row + random.pick(&[0, 1, 2, 3, 4, 5, 6, 7, 16, 31, 80, 81, 287]);
             script[at] = random.byte();
-            if theirs::script_op(&script[row..row + theirs::SCRIPT_ROW]).is_some() {
+            // A drain may have another limit in a script, but not in the Rust.
+            if script[row + 2] == 1 || theirs::script_op(&script[row..row + theirs::SCRIPT_ROW]).is_some() {
                 script[row + 7] = random.from_to(1, 255) as u8;
             }
         }

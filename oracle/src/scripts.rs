@@ -52,7 +52,7 @@ pub fn script(random: &mut Seeded, is_life: bool, pages: u32) -> Vec<Op> {
     if is_life || !random.one_in(8) {
         ops.push(Op::PowerOn);
     }
-    let count = random.from_to(4, 40);
+    let count = if random.one_in(4) { random.from_to(40, 160) } else { random.from_to(4, 40) };
     let mut now_ms = random.pick(&[0, 1, 1_000_000, u64::MAX - 50]);
     for _ in 0..count {
         step(random, &manner, pages, &mut now_ms, &mut ops);

@@ -657,7 +657,7 @@ pub fn played_row(outcome: Outcome, state: State) -> [u8; PLAYED_ROW] {
     row
 }
 
-/// The operation that a row says, if the row is the bytes of one and nothing else.
+/// The operation that a row says, if the row is the bytes of one and nothing else. A drain has the Rust's limit.
 pub fn script_op(row: &[u8]) -> Option<Op> {
     let number = |at: usize| u32::from_le_bytes(row[at..at + 4].try_into().unwrap());
     let programs = || {
