@@ -103,8 +103,8 @@ fn main() {
             one(&mut run, &mut board, "patterns", index * (kinds::PATTERNS / asked.images.min(kinds::PATTERNS)));
         }
         // A large image costs as much as thousands of small ones.
-        if index % 5000 == 100 {
-            one(&mut run, &mut board, "large", index / 5000);
+        if index % 1000 == 100 {
+            one(&mut run, &mut board, "large", index / 1000);
         }
     }
     println!("{} images with their codec, layout, line, assembler and store inputs in {:.1?}", asked.images, began.elapsed());
