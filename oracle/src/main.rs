@@ -116,6 +116,9 @@ fn main() {
         }
     }
     println!("{} lives and scripts in {:.1?}", asked.lives, began.elapsed());
+    if !oracle::ours::HAS_RIG {
+        println!("the archive has no stipeflute_rig: no life was compared");
+    }
     run.table();
     println!("no difference");
 }
