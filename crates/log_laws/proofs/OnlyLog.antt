@@ -1,15 +1,16 @@
 -- Drain and write_pending touch only pages of the log: each program touches its own page, which lies there. Assumes nothing.
-use Prim.Native.Nat.{ℕ, zero, suc, _+_, _-_, _*_, _%_, _≤_, _<_}
+use Prim.Native.Nat.{ℕ, zero, suc, _+_, _*_, _≤_, _<_}
 use mathlib.Core.Path.{_≡_, refl, _∙_}
 use mathlib.Core.Bool.{Bool, true, false, cond}
 use mathlib.Core.List.{List}
 use native.Mathlib.Omega.{arith}
 use borrow.Author.Tests.{eqb-true, ltb-true}
-use lib.Dec.{eqb, leb, ltb}
+use lib.Dec.{eqb, ltb}
 use lib.ListN.{length}
 use Rattle.laws.specs.Refusals.{invalidLayout, badLength}
 use Rattle.laws.specs.Answers.{gives, must}
 use Rattle.layout.specs.Layout.{logStart, validCapacity, pagesIn, pageAt}
+use Rattle.layout.proofs.Capacity.{valid}
 use Rattle.store.specs.Store.{leaves, mask, onImage, onLengths}
 use Rattle.store.specs.Laws.{OnlyAt}
 use Rattle.store.proofs.Laws.{only-its-bytes}
@@ -27,7 +28,7 @@ use Rattle.log_laws.specs.Laws.{DrainOnlyLog, WriteOnlyLog}
 
 -- ---- images that differ at most in the log
 
-only-same : (at n : ℕ) (m : List ℕ) → OnlyAt at n m m
+pub only-same : (at n : ℕ) (m : List ℕ) → OnlyAt at n m m
 only-same at n m =
     record {
       long = refl;
@@ -37,7 +38,7 @@ only-same at n m =
       part-above = λ b l h. refl;
     }
 
-only-then : (at n : ℕ) (a b c : List ℕ) → OnlyAt at n a b → OnlyAt at n b c → OnlyAt at n a c
+pub only-then : (at n : ℕ) (a b c : List ℕ) → OnlyAt at n a b → OnlyAt at n b c → OnlyAt at n a c
 only-then at n a b c x y =
     record {
       long = y .long ∙ x .long;
@@ -71,7 +72,7 @@ module _ (pages : ℕ) (image : List ℕ) (room : logStart + pages * 256 ≤ len
 
 -- ---- turn by turn
 
-turn-only : (pages : ℕ) (next : NextProgram) (keep : List ℕ) (p : Pass) (image : List ℕ) → SoundPass p → logStart + pages * 256 ≤ length image
+pub turn-only : (pages : ℕ) (next : NextProgram) (keep : List ℕ) (p : Pass) (image : List ℕ) → SoundPass p → logStart + pages * 256 ≤ length image
     → OnlyAt logStart (pages * 256) image (turnImage pages next keep p image)
 unfolding turnImage withWriter
 turn-only pages next keep p image s room =
@@ -110,13 +111,8 @@ turns-only pages next b keep (suc n) p image s room =
 -- ---- the calls
 
 -- an image of a valid capacity has room for its log
-has-room : (c : ℕ) → validCapacity c ≡ true → logStart + pagesIn c * 256 ≤ c
-unfolding validCapacity
-has-room c h = go (ltb 16384 c) refl h
-  where
-    go : (p : Bool) → ltb 16384 c ≡ p → cond p (cond (leb c 16777216) (eqb (c % 4096) 0) false) false ≡ true → logStart + pagesIn c * 256 ≤ c
-    go true e k = omega (arith, ltb-true 16384 c e)
-    go false e k = absurd (let z : _≡_ {A = ℕ} 0 1 = cc in omega arith)
+pub has-room : (c : ℕ) → validCapacity c ≡ true → logStart + pagesIn c * 256 ≤ c
+has-room c h = omega (arith, valid c h .above)
 
 pub drain-only-log : DrainOnlyLog
 unfolding afterDrain onLengths onImage drainImage

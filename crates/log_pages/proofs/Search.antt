@@ -33,15 +33,11 @@ abbrev pub asFound : ℕ → Option Theory.Span → Option StoredFlight
 asFound f none = none
 asFound f (some span) = some (record { «flight_id» = f; «start_page» = span .start; pages = span .pages })
 
--- every used page has a flight
-abbrev pub EachFlight : List (List ℕ) → ℕ → Type 0
-EachFlight log used = (i : ℕ) → i < used → (g : ℕ) × (Theory-scan.pageFlight real log i ≡ some g)
-
 one-flight : (o : Option PageFlight) (g : ℕ) → asFlight o ≡ some g → orCorrupt o ≡ gives g
 one-flight none g e = absurd (let z : _≡_ {A = ℕ} 0 1 = cc in omega arith)
 one-flight (some f) g e = let z : f .«flight_id» ≡ g = cc in ap {B = Answer ℕ} gives z
 
-module _ (image faults : List ℕ) (clear : NoFaults faults) (n used : ℕ) (l : used ≤ n) (each : EachFlight (pagesOf n image) used) where
+module _ (image faults : List ℕ) (clear : NoFaults faults) (n used : ℕ) (l : used ≤ n) (each : Theory-scan.FlightsKnown real (pagesOf n image) used) where
   abbrev log : List (List ℕ)
   log = pagesOf n image
 
@@ -93,7 +89,7 @@ module _ (image faults : List ℕ) (clear : NoFaults faults) (n used : ℕ) (l :
 
 -- THE TIE: "without faults" find_flight answers what the theory's search does over the image's pages
 pub find-is-theory : (c : ℕ) (image faults : List ℕ) → validCapacity c ≡ true → length image ≡ c → length faults ≡ c / 256 → NoFaults faults
-    → (used : ℕ) → used ≤ pagesIn c → EachFlight (pagesOf (pagesIn c) image) used → (f : ℕ) → f < 4294967295
+    → (used : ℕ) → used ≤ pagesIn c → Theory-scan.FlightsKnown real (pagesOf (pagesIn c) image) used → (f : ℕ) → f < 4294967295
     → foundFlight c image faults used f ≡ gives (asFound f (Theory-scan.find real (pagesOf (pagesIn c) image) used f))
 unfolding foundFlight
 find-is-theory c image faults v k q clear used l each f h =

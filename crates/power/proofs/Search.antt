@@ -18,7 +18,7 @@ use Rattle.power.specs.Reading.{Blanks, pageAt, firstBlank}
 use Rattle.power.specs.Grammar.{Ending, unused, ended, frayed, foreign, tornMore, newest, Sound, NotFalling, LooseRule, Follows, nothing-used}
 use Rattle.power.specs.Grammar.{whole-page, torn-page, Loose}
 use Rattle.power.specs.Claims.{ForeignLog, WholeOf, CountsWith, InSpan, SpanOf, SearchFinds}
-use Rattle.power.specs.Scan.{flightOf, pageFlight, flightNumber, firstFrom, span, find}
+use Rattle.power.specs.Scan.{flightOf, pageFlight, flightNumber, firstFrom, span, find, FlightsKnown}
 use Rattle.power.proofs.Used.{none-some, some-is, length-snoc, at-left, at-snoc, flight-left, flight-own, used-not-blank, last, last-shown}
 use Rattle.power.proofs.Scan.{first-blank, foreign-is, Alien}
 
@@ -303,3 +303,11 @@ module _ {Page Record Mask : Type 0} (S : PageStore Page Record Mask) where
   search-finds l w =
       rw (w .split)
       (λ ok f. rw (first-blank S (w .follows) (w .rest) (w .blanks)) (finds (w .used) (w .rest) (w .ending) (w .follows) (w .blanks) ok f))
+
+  -- and every used page of such a log has a flight
+  all-known : (l m : List Page) (st : Ending Record) → Follows S (LooseRule S) l st → Blanks S m → ¬ ForeignLog S (l ++ m) → FlightsKnown S (l ++ m) (length l)
+  all-known l m st u b ok i h = let x = flown u (λ z. ok ((foreign-is S u m b) .1 z)) i h in (x .0, flight-left S l m i h ∙ x .1)
+
+  pub flights-known : (l : List Page) → Loose S l → ¬ ForeignLog S l → FlightsKnown S l (firstBlank S l)
+  flights-known l w =
+      rw (w .split) (λ ok. rw (first-blank S (w .follows) (w .rest) (w .blanks)) (all-known (w .used) (w .rest) (w .ending) (w .follows) (w .blanks) ok))

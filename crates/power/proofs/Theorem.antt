@@ -18,10 +18,10 @@ use Rattle.power.specs.Writer.{Writer, new, recover}
 use Rattle.power.specs.Calls.{Next, Pass, withWriter, drain, writePending}
 use Rattle.power.specs.Life.{Device, Call, offers, drains, writes, powers, begin, afterPass, powerOn, call, lives, unpowered, history, Assumed}
 use Rattle.power.specs.Life.{AllAssumed, FlightsFit}
-use Rattle.power.specs.Theorem.{Holds, Beginning, EveryLife, RecordsStay, NotWritable, NoWrap, erased, FromErased, StrictFromErased}
+use Rattle.power.specs.Theorem.{Holds, Beginning, EveryLife, RecordsStay, NotWritable, NoWrap, erased, FromErased, StrictFromErased, StayFromErased}
 use Rattle.power.proofs.Used.{none-some, records-append, records-blanks, log-map}
 use Rattle.power.proofs.Scan.{scan-says, newest-read, newest-blanks}
-use Rattle.power.proofs.Search.{search-finds}
+use Rattle.power.proofs.Search.{search-finds, flights-known}
 use Rattle.power.proofs.Invariant.{Ground, off, Inv, settle}
 use Rattle.power.proofs.Adds.{adds-none, adds-then}
 use Rattle.power.proofs.Events.{woken, keep-power-on}
@@ -211,6 +211,7 @@ module _ {Page Record Mask : Type 0} (S : PageStore Page Record Mask) where
             records = kept;
             scanned = scan-says S (d .log) left-loose (settled .newest-small) (omega (arith, settled .long));
             searched = search-finds S (d .log) left-loose;
+            known = flights-known S (d .log) left-loose;
           }
         where
           on-flash : recordsOn S (d .log) ≡ settled .old ++ settled .kept
@@ -312,9 +313,17 @@ module _ {Page Record Mask : Type 0} (S : PageStore Page Record Mask) where
   abbrev strictly : ℕ → Ground S
   strictly pages = record { Rule = StrictRule S; ours = λ st p c r. r; loose = strict-loose; count = pages; top = 0; there = [] }
 
+  erased-stands : (pages : ℕ) → pages + 2 ≤ S .limit → Stands (strictly pages) (unpowered S (erased S pages))
+  erased-stands pages h =
+      unpowered-stands (strictly pages) (erased S pages) (erased-by (StrictRule S) pages) refl (omega arith) (length-replicate pages (S .blank))
+      (omega arith) (records-blanks S (erased S pages) (blanks-erased pages))
+
   pub strict-from-erased : StrictFromErased S
   strict-from-erased pages z h life a =
       left (strictly pages) (lives S life (unpowered S (erased S pages)))
-      ((lives-keep (strictly pages) life (unpowered S (erased S pages)) a (inr (omega arith))
-      (unpowered-stands (strictly pages) (erased S pages) (erased-by (StrictRule S) pages) refl (omega arith) (length-replicate pages (S .blank))
-      (omega arith) (records-blanks S (erased S pages) (blanks-erased pages)))) .stands)
+      ((lives-keep (strictly pages) life (unpowered S (erased S pages)) a (inr (omega arith)) (erased-stands pages h)) .stands)
+
+  pub stay-from-erased : StayFromErased S
+  stay-from-erased pages z h life after a a′ =
+      let k = lives-keep (strictly pages) life (unpowered S (erased S pages)) a (inr (omega arith)) (erased-stands pages h) in
+      (lives-keep (strictly pages) after (lives S life (unpowered S (erased S pages))) a′ (inr (omega arith)) (k .stands)) .adds

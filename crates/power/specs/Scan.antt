@@ -1,6 +1,7 @@
 -- The scan and the search as the code does them, by halving, over pages that read without a fault.
 -- From document 01, "Scan, search and acknowledgements", and the Rust's scan_log, page_flight_id and find_flight.
-use Prim.Native.Nat.{ℕ, zero, suc, _-_}
+use Prim.Native.Nat.{ℕ, zero, suc, _-_, _<_}
+use mathlib.Core.Path.{_≡_}
 use mathlib.Core.Bool.{true, cond}
 use mathlib.Core.Option.{Option, none, some}
 use mathlib.Core.List.{List}
@@ -57,6 +58,10 @@ module _ {Page Record Mask : Type 0} (S : PageStore Page Record Mask) where
   abbrev pub numberOf : Option ℕ → ℕ
   numberOf none = 0
   numberOf (some flight) = flight
+
+  -- each of so many pages has a flight
+  abbrev pub FlightsKnown : List Page → ℕ → Type 0
+  FlightsKnown log used = (i : ℕ) → i < used → (flight : ℕ) × (pageFlight log i ≡ some flight)
 
   -- the number that the search compares for page i
   abbrev pub flightNumber : List Page → ℕ → ℕ

@@ -10,7 +10,7 @@ use Rattle.power.specs.Pages.{PageStore}
 use Rattle.power.specs.Reading.{firstBlank, newestFlight, recordsOn}
 use Rattle.power.specs.Grammar.{Loose, Strict}
 use Rattle.power.specs.Claims.{Kept, OnlyAdds, ForeignLog, ScanSays, NothingWritten, SearchFinds}
-use Rattle.power.specs.Scan.{scan, find}
+use Rattle.power.specs.Scan.{scan, find, FlightsKnown}
 use Rattle.power.specs.Life.{Device, Call, lives, unpowered, powerOn, history, AllAssumed, FlightsFit}
 
 module _ {Page Record Mask : Type 0} (S : PageStore Page Record Mask) where
@@ -23,6 +23,8 @@ module _ {Page Record Mask : Type 0} (S : PageStore Page Record Mask) where
     pub scanned : ScanSays S (d .log) (scan S (d .log))
     -- (e) "Over those pages the search finds for a flight its whole pages and a torn page right after them, and nothing for .."
     pub searched : ¬ ForeignLog S (d .log) → (flight : ℕ) → SearchFinds S (d .log) flight (find S (d .log) (firstBlank S (d .log)) flight)
+    -- so no page that it reads is refused for want of a flight
+    pub known : ¬ ForeignLog S (d .log) → FlightsKnown S (d .log) (firstBlank S (d .log))
 
   -- a log from which the theorem starts: of one page or more and fewer than the limit, by the loose grammar, its newest flight below the limit
   pub record Beginning (log : List Page) : Type 0 where
@@ -70,3 +72,10 @@ module _ {Page Record Mask : Type 0} (S : PageStore Page Record Mask) where
   StrictFromErased =
       (pages : ℕ) → 0 < pages → pages + 2 ≤ S .limit → (life : List (Call S)) → AllAssumed S life (unpowered S (erased pages))
       → Strict S (lives S life (unpowered S (erased pages)) .log)
+
+  -- and the records stay there, whatever comes after
+  abbrev pub StayFromErased : Type 0
+  StayFromErased =
+      (pages : ℕ) → 0 < pages → pages + 2 ≤ S .limit → (life after : List (Call S)) → AllAssumed S life (unpowered S (erased pages))
+      → AllAssumed S after (lives S life (unpowered S (erased pages)))
+      → OnlyAdds S (lives S life (unpowered S (erased pages)) .log) (lives S after (lives S life (unpowered S (erased pages))) .log)

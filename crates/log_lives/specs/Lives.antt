@@ -1,0 +1,95 @@
+-- The life that a script plays: its operations as calls of the theory `power`, whose history says what was logged in each power-on.
+use Prim.Native.Nat.{ℕ, _<_}
+use mathlib.Core.Path.{_≡_}
+use mathlib.Core.Bool.{cond}
+use mathlib.Core.List.{List, [], _∷_, _++_}
+use lib.Dec.{ltb}
+use lib.ListN.{length, replicate}
+use Rattle.power.specs.Calls.{Next}
+use Rattle.power.specs.Life.{Call, Device}
+use Rattle.power.specs.Life as Life
+use Rattle.blackbox.specs.Record.{Fit}
+use Rattle.blackbox.specs.declared.FlightRecord.{FlightRecord}
+use Rattle.layout.specs.Layout.{pagesIn}
+use Rattle.log_pages.specs.Store.{pagesOf}
+use Rattle.log_pages.proofs.Real.{real}
+use Rattle.log_views.specs.Views.{asNext}
+use Rattle.log_writer.specs.declared.NextProgram.{NextProgram}
+use Rattle.log_writer.specs.declared.NextProgram.the-variants.{Busy, Fault, Cut}
+use Rattle.script.specs.Script.{Operation, offers, drains, writes, powers, recovers, resets, flushes, operations}
+use Rattle.rig.specs.Rig.{unpowered, played, imageAfter}
+use Rattle.rig.specs.declared.Bench.{Bench}
+
+-- an operation of a life: "Power comes on any number of times, each with a fresh writer set by one scan alone"
+abbrev pub OfLife : Operation → Type 0
+OfLife (offers r) = Unit {0}
+OfLife (drains limit whileDisarmed armed succeed next keep) = Unit {0}
+OfLife (writes succeed next keep) = Unit {0}
+OfLife powers = Unit {0}
+OfLife (recovers page flight writable) = ⊥
+OfLife resets = ⊥
+OfLife (flushes buffered clock) = ⊥
+
+abbrev pub EachOfLife : List Operation → Type 0
+EachOfLife [] = Unit {0}
+EachOfLife (o ∷ os) = OfLife o × EachOfLife os
+
+-- the calls that an operation is: an offer to a queue that holds 31 is refused, and is none
+abbrev pub callsOf : Operation → Bench → List (Call real)
+callsOf (offers r) b = cond (ltb (b .queue .held) 31) (Life.offers r ∷ []) []
+callsOf (drains limit whileDisarmed armed succeed next keep) b = Life.drains limit whileDisarmed armed succeed (asNext next keep) ∷ []
+callsOf (writes succeed next keep) b = Life.writes succeed (asNext next keep) ∷ []
+callsOf powers b = Life.powers ∷ []
+callsOf (recovers page flight writable) b = []
+callsOf resets b = []
+callsOf (flushes buffered clock) b = []
+
+-- the life that some operations play, from a bench and an image on
+abbrev pub lifeFrom : ℕ → List Operation → Bench → List ℕ → List (Call real)
+lifeFrom capacity [] b image = []
+lifeFrom capacity (o ∷ os) b image = callsOf o b ++ lifeFrom capacity os (played capacity o b image .bench) (imageAfter capacity o b image)
+
+-- the life of a script, from before the first power-on
+abbrev pub lifeOf : ℕ → List ℕ → List ℕ → List (Call real)
+lifeOf capacity image script = lifeFrom capacity (operations script) unpowered image
+
+-- the device of the theory before it, and after it
+abbrev pub deviceBefore : ℕ → List ℕ → Device real
+deviceBefore capacity image = Life.unpowered real (pagesOf (pagesIn capacity) image)
+
+abbrev pub deviceAfter : ℕ → List ℕ → List ℕ → Device real
+deviceAfter capacity image script = Life.lives real (lifeOf capacity image script) (deviceBefore capacity image)
+
+-- ASSUMED, of each program of a life that did not finish: what it left doesn't decode, or is the page itself
+abbrev pub NoneDecodes : List (Call real) → Device real → Type 0
+NoneDecodes [] d = Unit {0}
+NoneDecodes (Life.offers r ∷ life) d = NoneDecodes life (Life.call real (Life.offers r) d)
+NoneDecodes (Life.drains limit whileDisarmed armed succeed next ∷ life) d =
+    Life.Assumed real (Life.drains limit whileDisarmed armed succeed next) d
+    × NoneDecodes life (Life.call real (Life.drains limit whileDisarmed armed succeed next) d)
+NoneDecodes (Life.writes succeed next ∷ life) d = Life.Assumed real (Life.writes succeed next) d × NoneDecodes life (Life.call real (Life.writes succeed next) d)
+NoneDecodes (Life.powers ∷ life) d = NoneDecodes life (Life.call real Life.powers d)
+
+-- ---- the script of a life
+
+-- what the program after those that succeed does, and its mask
+abbrev pub nextOf : Next (List ℕ) → NextProgram
+nextOf Next.busy = Busy
+nextOf (Next.fault keep) = Fault
+nextOf (Next.cut keep) = Cut
+
+abbrev pub keepOf : Next (List ℕ) → List ℕ
+keepOf Next.busy = replicate 256 0
+keepOf (Next.fault keep) = keep
+keepOf (Next.cut keep) = keep
+
+-- the operation that a call is
+abbrev pub operationOf : Call real → Operation
+operationOf (Life.offers r) = offers r
+operationOf (Life.drains limit whileDisarmed armed succeed next) = drains limit whileDisarmed armed succeed (nextOf next) (keepOf next)
+operationOf (Life.writes succeed next) = writes succeed (nextOf next) (keepOf next)
+operationOf Life.powers = powers
+
+abbrev pub operationsOf : List (Call real) → List Operation
+operationsOf [] = []
+operationsOf (c ∷ life) = operationOf c ∷ operationsOf life

@@ -1,0 +1,406 @@
+// The rig: plays a script on a lent image, from power-on to power-off, with a writer and a queue of its own, and after each call tells its
+// outcome, its report and the writer's visible state in 40 bytes. Capacity, image, script and output are tested whole before the first
+// call: a refused script alters nothing.
+// A caller can rely on it that what is done to the image is exactly what the script says, call by call.
+use assembler::UnfinishedFlight;
+use blackbox::FlightRecord;
+use log_state::LogWriter;
+use log_writer::DrainAnswer;
+use log_writer::PageWrite;
+use log_writer::WriteAnswer;
+use queue::RecordQueue;
+use records::ScanAnswer;
+use store::StoreAnswer;
+ghost use Prim.Native.Nat.{_+_, _*_, _/_, _^_, min};
+ghost use mathlib.Core.Path.{_≡_};
+ghost use mathlib.Core.Bool.{true};
+ghost use mathlib.Core.List.{_++_};
+ghost use lib.ListN.{length, getD};
+ghost use Rattle.words.specs.Words.{leBytes, u32At};
+ghost use Rattle.blackbox.specs.Record.{recordOf};
+ghost use Rattle.store.specs.Store.{told, part};
+ghost use Rattle.records.specs.Scan.{toldScan, scanned};
+ghost use Rattle.assembler.specs.Assembler.{toldUnfinished, unfinishedFlight};
+ghost use Rattle.queue.specs.Queue.{offered};
+ghost use Rattle.log_state.specs.Writer.{recovered};
+ghost use Rattle.log_state.specs.Flush.{flushed};
+ghost use Rattle.script.specs.Script.{flagAt, operationIn, operations, rowsIn};
+ghost use Rattle.rig.specs.Rig.{unpowered, playing, offering, draining, writing, outcomeOf, powering, flushing, noFaults, played};
+ghost use Rattle.rig.specs.Rig.{imageAfter, isThere, numberOr0, since};
+ghost use Rattle.rig.specs.Rig.{bytes64, tellsOf, playsImage, tells, playTold, afterPlay, outputAfter};
+ghost use Rattle.rig.specs.Laws.{SoundBench};
+
+pub const TELL_LEN: usize = 40;
+
+// What is on the bench beside the image.
+pub struct Bench {
+    pub writer: LogWriter,
+    pub queue: RecordQueue,
+}
+
+// What a call left there, its outcome and its report.
+pub struct Played {
+    pub bench: Bench,
+    pub outcome: u8,
+    pub pages_written: u32,
+    pub records_dropped: u32,
+    pub write_faults: u32,
+}
+
+// Before the first power-on.
+fn unpowered_bench() -> Bench
+    ensures { λ r. ⌜ r ≡ unpowered ⌝ }
+{
+    let writer = LogWriter::new();
+    let queue = RecordQueue::new();
+    Bench { writer, queue }
+}
+
+// A call without a report.
+fn unreported(writer: LogWriter, queue: RecordQueue, outcome: u8) -> Played
+    ensures { λ r. ⌜ r ≡ playing writer queue outcome 0 0 0 ⌝ }
+{
+    let bench = Bench { writer, queue };
+    Played {
+        bench,
+        outcome,
+        pages_written: 0,
+        records_dropped: 0,
+        write_faults: 0,
+    }
+}
+
+// The record of a row is offered to the queue.
+fn offer(bench: Bench, row: &[u8]) -> Played
+    requires { ⌜ SoundBench bench × (length (now row) ≡ 288) ⌝ }
+    ensures { λ r. ⌜ r ≡ offering (bench .writer) (offered (bench .queue) (recordOf (part 32 48 (now (row .entry))))) ⌝ }
+{
+    let read = FlightRecord::decode(&row[32..80]);
+    let record = read.record;
+    let queue = bench.queue;
+    let answer = queue.offer(record);
+    let writer = bench.writer;
+    let after = answer.queue;
+    unreported(writer, after, answer.refused)
+}
+
+// A drain with the numbers and the mask of a row.
+fn drain(bench: Bench, capacity_bytes: u32, image: &mut [u8], row: &[u8]) -> Played
+    requires { ⌜ SoundBench bench × (length (now row) ≡ 288) × (getD (now row) 2 0 ≡ 1) ⌝ }
+    ensures { λ r. ⌜ r ≡ played «capacity_bytes» (operationIn (now (row .entry))) bench (now (image .entry)) ⌝ }
+    ensures { λ _. ⌜ now (image .exit) ≡ imageAfter «capacity_bytes» (operationIn (now (row .entry))) bench (now (image .entry)) ⌝ }
+{
+    let writer = bench.writer;
+    let queue = bench.queue;
+    let limit = words::u32_at(row, 8);
+    let while_disarmed = script::flag_at(row, 5);
+    let armed = script::flag_at(row, 4);
+    let succeed = words::u32_at(row, 12);
+    let next = script::next_in(words::byte_at(row, 3));
+    let answer = log_writer::drain_up_to(
+        limit,
+        writer,
+        queue,
+        capacity_bytes,
+        image,
+        &row[32..288],
+        succeed,
+        next,
+        armed,
+        while_disarmed,
+    );
+    drain_told(answer)
+}
+
+// A drain's outcome is 1 if the power was cut.
+fn drain_told(answer: DrainAnswer) -> Played
+    ensures { λ r. ⌜ r ≡ draining answer ⌝ }
+{
+    let writer = answer.writer;
+    let queue = answer.queue;
+    let report = answer.report;
+    let bench = Bench { writer, queue };
+    let outcome = script::flag_byte(answer.cut);
+    Played {
+        bench,
+        outcome,
+        pages_written: report.pages_written,
+        records_dropped: report.records_dropped,
+        write_faults: report.write_faults,
+    }
+}
+
+fn outcome_byte(outcome: PageWrite) -> u8
+    ensures { λ r. ⌜ r ≡ outcomeOf outcome ⌝ }
+{
+    match outcome {
+        PageWrite::Nothing => 0,
+        PageWrite::Written => 1,
+        PageWrite::RegionFull => 2,
+        PageWrite::ProgramFailed => 3,
+        PageWrite::PowerCut => 4,
+    }
+}
+
+// A write_pending with the numbers and the mask of a row.
+fn write(bench: Bench, capacity_bytes: u32, image: &mut [u8], row: &[u8]) -> Played
+    requires { ⌜ SoundBench bench × (length (now row) ≡ 288) × (getD (now row) 2 0 ≡ 2) ⌝ }
+    ensures { λ r. ⌜ r ≡ played «capacity_bytes» (operationIn (now (row .entry))) bench (now (image .entry)) ⌝ }
+    ensures { λ _. ⌜ now (image .exit) ≡ imageAfter «capacity_bytes» (operationIn (now (row .entry))) bench (now (image .entry)) ⌝ }
+{
+    let writer = bench.writer;
+    let queue = bench.queue;
+    let succeed = words::u32_at(row, 12);
+    let next = script::next_in(words::byte_at(row, 3));
+    let answer = log_writer::write_pending(
+        writer,
+        queue,
+        capacity_bytes,
+        image,
+        &row[32..288],
+        succeed,
+        next,
+    );
+    write_told(answer)
+}
+
+fn write_told(answer: WriteAnswer) -> Played
+    ensures { λ r. ⌜ r ≡ writing answer ⌝ }
+{
+    let writer = answer.writer;
+    let queue = answer.queue;
+    let outcome = answer.outcome;
+    unreported(writer, queue, outcome_byte(outcome))
+}
+
+// How many fault bytes a capacity has: a valid one has at most 65,536.
+fn fault_count(capacity_bytes: u32) -> usize
+    ensures { λ r. ⌜ r ≡ min («capacity_bytes» / 256) 65536 ⌝ }
+{
+    let count = (capacity_bytes / 256) as usize;
+    if count <= 65536 { count } else { 65536 }
+}
+
+// A scan without faults; a capacity that has more fault bytes than there are here is refused before one is read.
+fn scan(capacity_bytes: u32, image: &[u8]) -> ScanAnswer
+    ensures { λ r. ⌜ toldScan r ≡ scanned «capacity_bytes» (now (image .entry)) (noFaults «capacity_bytes») ⌝ }
+{
+    let faults = [0u8; 65536];
+    let count = fault_count(capacity_bytes);
+    records::scan_log(capacity_bytes, image, &faults[0..count])
+}
+
+// Power comes on: a fresh writer set by one scan alone, and an empty queue.
+fn power_on(capacity_bytes: u32, image: &[u8]) -> Played
+    ensures { λ r. ⌜ r ≡ powering (scanned «capacity_bytes» (now (image .entry)) (noFaults «capacity_bytes»)) ⌝ }
+{
+    let fresh = LogWriter::new();
+    let queue = RecordQueue::new();
+    match scan(capacity_bytes, image) {
+        ScanAnswer::Refused(refusal) => unreported(fresh, queue, refusal.number),
+        ScanAnswer::Scanned(found) => {
+            let writer = fresh.recover(found.next_page, found.next_flight, found.writable);
+            unreported(writer, queue, 0)
+        }
+    }
+}
+
+// recover with the numbers of a row.
+fn recover(bench: Bench, row: &[u8]) -> Played
+    ensures { λ r. ⌜ r ≡ playing (recovered (bench .writer) (u32At (now (row .entry)) 8) (u32At (now (row .entry)) 12) (flagAt (now (row .entry)) 6)) (bench .queue) 0 0 0 0 ⌝ }
+{
+    let page = words::u32_at(row, 8);
+    let flight = words::u32_at(row, 12);
+    let writable = script::flag_at(row, 6);
+    let before = bench.writer;
+    let writer = before.recover(page, flight, writable);
+    let queue = bench.queue;
+    unreported(writer, queue, 0)
+}
+
+fn reset(bench: Bench) -> Played
+    ensures { λ r. ⌜ r ≡ playing (recovered (bench .writer) 0 1 true) (bench .queue) 0 0 0 0 ⌝ }
+{
+    let before = bench.writer;
+    let writer = before.reset_after_erase();
+    let queue = bench.queue;
+    unreported(writer, queue, 0)
+}
+
+// flush_write_back with the flag and the clock of a row.
+fn flush(bench: Bench, row: &[u8]) -> Played
+    ensures { λ r. ⌜ r ≡ flushing (bench .queue) (flushed (bench .writer) (flagAt (now (row .entry)) 6) (u32At (now (row .entry)) 8 + 2 ^ 32 * u32At (now (row .entry)) 12)) ⌝ }
+{
+    let buffered = script::flag_at(row, 6);
+    let low = words::u32_at(row, 8) as u64;
+    let high = words::u32_at(row, 12) as u64;
+    let before = bench.writer;
+    let answer = before.flush_write_back(buffered, low + 4294967296 * high);
+    let writer = answer.writer;
+    let queue = bench.queue;
+    unreported(writer, queue, script::flag_byte(answer.flush))
+}
+
+// What the operation of a row does.
+fn step(bench: Bench, capacity_bytes: u32, image: &mut [u8], row: &[u8]) -> Played
+    requires { ⌜ SoundBench bench × (length (now row) ≡ 288) ⌝ }
+    ensures { λ r. ⌜ r ≡ played «capacity_bytes» (operationIn (now (row .entry))) bench (now (image .entry)) ⌝ }
+    ensures { λ _. ⌜ now (image .exit) ≡ imageAfter «capacity_bytes» (operationIn (now (row .entry))) bench (now (image .entry)) ⌝ }
+{
+    let operation = words::byte_at(row, 2);
+    if operation == 0 {
+        return offer(bench, row);
+    }
+    if operation == 1 {
+        return drain(bench, capacity_bytes, image, row);
+    }
+    if operation == 2 {
+        return write(bench, capacity_bytes, image, row);
+    }
+    if operation == 3 {
+        return power_on(capacity_bytes, image);
+    }
+    if operation == 4 {
+        return recover(bench, row);
+    }
+    if operation == 5 {
+        return reset(bench);
+    }
+    flush(bench, row)
+}
+
+// Three numbers, one after another.
+fn three_numbers(a: u32, b: u32, c: u32) -> [u8; 12]
+    ensures { λ r. ⌜ r ≡ leBytes 4 a ++ (leBytes 4 b ++ leBytes 4 c) ⌝ }
+{
+    let one = words::u32_bytes(a);
+    let two = words::u32_bytes(b);
+    let three = words::u32_bytes(c);
+    let mut bytes = [0u8; 12];
+    words::put_bytes(&mut bytes, 0, &one);
+    words::put_bytes(&mut bytes, 4, &two);
+    words::put_bytes(&mut bytes, 8, &three);
+    bytes
+}
+
+// A number of 64 bits, the low half first.
+fn u64_bytes(n: u64) -> [u8; 8]
+    ensures { λ r. ⌜ r ≡ bytes64 n ⌝ }
+{
+    let low = words::u32_bytes((n % 4294967296) as u32);
+    let high = words::u32_bytes((n / 4294967296) as u32);
+    let mut bytes = [0u8; 8];
+    words::put_bytes(&mut bytes, 0, &low);
+    words::put_bytes(&mut bytes, 4, &high);
+    bytes
+}
+
+fn is_there(flight: UnfinishedFlight) -> u8
+    ensures { λ r. ⌜ r ≡ isThere (toldUnfinished flight) ⌝ }
+{
+    match flight {
+        UnfinishedFlight::Flight(_) => 1,
+        UnfinishedFlight::Nothing => 0,
+    }
+}
+
+fn number_or_0(flight: UnfinishedFlight) -> u32
+    ensures { λ r. ⌜ r ≡ numberOr0 (toldUnfinished flight) ⌝ }
+{
+    match flight {
+        UnfinishedFlight::Flight(number) => number,
+        UnfinishedFlight::Nothing => 0,
+    }
+}
+
+// The flush's start time, 0 where there is none.
+fn since_or_0(writer: LogWriter) -> u64
+    ensures { λ r. ⌜ r ≡ numberOr0 (since writer) ⌝ }
+{
+    if writer.has_write_back_since {
+        return writer.write_back_since_ms;
+    }
+    0
+}
+
+// What is told after a call.
+fn tells_of(played: Played) -> [u8; 40]
+    requires { ⌜ SoundBench (played .bench) ⌝ }
+    ensures { λ r. ⌜ r ≡ tellsOf played ⌝ }
+{
+    let bench = played.bench;
+    let writer = bench.writer;
+    let assembler = writer.assembler;
+    let queue = bench.queue;
+    let unfinished = writer.unfinished_flight();
+    let head = [
+        played.outcome,
+        script::flag_byte(writer.writable),
+        script::flag_byte(assembler.recording),
+        is_there(unfinished),
+        script::flag_byte(writer.has_write_back_since),
+        queue.held as u8,
+        0,
+        0,
+    ];
+    let report = three_numbers(
+        played.pages_written,
+        played.records_dropped,
+        played.write_faults,
+    );
+    let state = three_numbers(
+        writer.next_page,
+        writer.next_flight,
+        number_or_0(unfinished),
+    );
+    let start = u64_bytes(since_or_0(writer));
+    let mut bytes = [0u8; 40];
+    words::put_bytes(&mut bytes, 0, &head);
+    words::put_bytes(&mut bytes, 8, &report);
+    words::put_bytes(&mut bytes, 20, &state);
+    words::put_bytes(&mut bytes, 32, &start);
+    bytes
+}
+
+// The rows of a script, one after another.
+fn play_rows(capacity_bytes: u32, image: &mut [u8], script: &[u8], output: &mut [u8])
+    requires { ⌜ length (now output) ≡ rowsIn (now script) * 40 ⌝ }
+    ensures { λ _. ⌜ now (image .exit) ≡ playsImage «capacity_bytes» (operations (now (script .entry))) unpowered (now (image .entry)) ⌝ }
+    ensures { λ _. ⌜ now (output .exit) ≡ tells «capacity_bytes» (operations (now (script .entry))) unpowered (now (image .entry)) ⌝ }
+{
+    let rows = script.len() / script::ROW_LEN;
+    let mut bench = unpowered_bench();
+    let mut i = 0;
+    while i < rows {
+        let a = i * script::ROW_LEN;
+        let e = a + script::ROW_LEN;
+        let played = step(bench, capacity_bytes, image, &script[a..e]);
+        let bytes = tells_of(played);
+        words::put_bytes(output, i * TELL_LEN, &bytes);
+        let after = played.bench;
+        bench = after;
+        i += 1;
+    }
+}
+
+// Plays a script on an image and tells 40 bytes for each of its rows. A capacity is refused 5; an image that has not its length, a script
+// that is malformed and an output that has not 40 bytes for each row are refused 17.
+pub fn play(capacity_bytes: u32, image: &mut [u8], script: &[u8], output: &mut [u8]) -> StoreAnswer
+    ensures { λ r. ⌜ told r ≡ playTold «capacity_bytes» (now (image .entry)) (now (script .entry)) (now (output .entry)) ⌝ }
+    ensures { λ _. ⌜ now (image .exit) ≡ afterPlay «capacity_bytes» (now (image .entry)) (now (script .entry)) (now (output .entry)) ⌝ }
+    ensures { λ _. ⌜ now (output .exit) ≡ outputAfter «capacity_bytes» (now (image .entry)) (now (script .entry)) (now (output .entry)) ⌝ }
+{
+    match store::checked_image(capacity_bytes, image.len()) {
+        StoreAnswer::Refused(refusal) => StoreAnswer::Refused(refusal),
+        StoreAnswer::Done => {
+            if !script::is_script(script) {
+                return StoreAnswer::Refused(laws::refused(laws::BAD_LENGTH));
+            }
+            if output.len() != script.len() / script::ROW_LEN * TELL_LEN {
+                return StoreAnswer::Refused(laws::refused(laws::BAD_LENGTH));
+            }
+            play_rows(capacity_bytes, image, script, output);
+            StoreAnswer::Done
+        }
+    }
+}
