@@ -1,0 +1,56 @@
+-- `reply_log::lay_synced` meets its contract. Assumes nothing.
+use Rattle.reply.proofs.Rows.{ends, row-refused, row-gave}
+use Rattle.reply_log.proofs.LogWays.{synced-refused, synced-is, synced-not}
+use Rattle.reply_log.specs.LogRows.{flagRow}
+use borrow.Author.Needs.{needs}
+use Rattle.reply_log.proofs.lay_synced.Statement.{statement}
+use Rattle.reply_log.proofs.lay_synced.Tie as tie
+
+enum-known-a : tie.Need-enum-known-a
+enum-known-a c = search needs
+
+refuse-requires : tie.Need-refuse-requires
+refuse-requires c κs = search needs
+
+enum-told : tie.Need-enum-told
+enum-told c = search needs
+
+give-flag-requires : tie.Need-give-flag-requires
+give-flag-requires c κs = search needs
+
+enum-told-2 : tie.Need-enum-told-2
+enum-told-2 c = search needs
+
+give-flag-requires-2 : tie.Need-give-flag-requires-2
+give-flag-requires-2 c κs = search needs
+
+returns : tie.Need-returns
+returns c = ends (search (row-refused, row-gave flagRow, synced-refused, synced-is, synced-not, needs))
+
+same-length : tie.Need-same-length
+same-length c = search needs
+
+returns-2 : tie.Need-returns-2
+returns-2 c = ends (search (row-refused, row-gave flagRow, synced-refused, synced-is, synced-not, needs))
+
+same-length-2 : tie.Need-same-length-2
+same-length-2 c = search needs
+
+returns-3 : tie.Need-returns-3
+returns-3 c = ends (search (row-refused, row-gave flagRow, synced-refused, synced-is, synced-not, needs))
+
+pub lay-synced-spec : {M : Type 1} → statement M
+lay-synced-spec =
+    tie.close
+    (tie.spec
+    enum-known-a
+    refuse-requires
+    enum-told
+    give-flag-requires
+    enum-told-2
+    give-flag-requires-2
+    returns
+    same-length
+    returns-2
+    same-length-2
+    returns-3)

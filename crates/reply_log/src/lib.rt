@@ -1,0 +1,269 @@
+// The answers of scan, search, ledger and log sync as C calls give them: a number and a row of bytes, by the rules of `reply`; and
+// what the numbers stand for that these calls are handed.
+use log_search::FindAnswer;
+use log_search::StoredFlight;
+use log_sync::AckAnswer;
+use log_sync::Recording;
+use records::FlightAnswer;
+use records::Scan;
+use records::ScanAnswer;
+use records::TestAnswer;
+use sync_ledger::BitAnswer;
+use sync_ledger::BitLocation;
+use sync_ledger::HeaderAnswer;
+use sync_ledger::LedgerHeader;
+use sync_ledger::MarkStep;
+use sync_ledger::StepAnswer;
+use sync_ledger::SyncedAnswer;
+ghost use mathlib.Core.Path.{_≡_};
+ghost use mathlib.Core.List.{_∷_};
+ghost use Rattle.laws.specs.Answers.{gives};
+ghost use Rattle.records.specs.Pages.{toldTest, toldFlight};
+ghost use Rattle.records.specs.Scan.{toldScan};
+ghost use Rattle.sync_ledger.specs.Ledger.{toldHeader, toldBit, toldSynced, toldStep};
+ghost use Rattle.log_search.specs.Search.{toldFind};
+ghost use Rattle.log_sync.specs.Sync.{toldAck};
+ghost use Rattle.reply.specs.Reply.{replyOf, rowReply, rowAfter, laid};
+ghost use Rattle.reply_log.specs.LogRows.{scanRow, flightRow, storedRow, foundRow, flagRow, headerRow, bitRow, stepNumbers, stepRow};
+ghost use Rattle.reply_log.specs.LogRows.{stepOf, recordingOf};
+
+fn scan_row(s: Scan) -> [u8; 9]
+    ensures { λ r. ⌜ r ≡ scanRow s ⌝ }
+{
+    let p = words::u32_bytes(s.next_page);
+    let f = words::u32_bytes(s.next_flight);
+    let w = reply::flag_of(s.writable);
+    [p[0], p[1], p[2], p[3], f[0], f[1], f[2], f[3], w]
+}
+
+pub fn lay_scan(a: ScanAnswer, answer: &mut [u8]) -> u32
+    ensures { λ r. ⌜ r ≡ rowReply 9 (now (answer .entry)) (laid scanRow (toldScan a)) ⌝ }
+    ensures { λ _. ⌜ now (answer .exit) ≡ rowAfter 9 (now (answer .entry)) (laid scanRow (toldScan a)) ⌝ }
+{
+    match a {
+        ScanAnswer::Refused(refusal) => reply::refuse(refusal, answer.len(), 9),
+        ScanAnswer::Scanned(s) => {
+            let row = scan_row(s);
+            reply::give(answer, &row)
+        }
+    }
+}
+
+pub fn lay_flight(a: FlightAnswer, answer: &mut [u8]) -> u32
+    ensures { λ r. ⌜ r ≡ rowReply 5 (now (answer .entry)) (laid flightRow (toldFlight a)) ⌝ }
+    ensures { λ _. ⌜ now (answer .exit) ≡ rowAfter 5 (now (answer .entry)) (laid flightRow (toldFlight a)) ⌝ }
+{
+    match a {
+        FlightAnswer::Refused(refusal) => reply::refuse(refusal, answer.len(), 5),
+        FlightAnswer::NoFlight => {
+            let row = [0u8; 5];
+            reply::give(answer, &row)
+        }
+        FlightAnswer::Flight(f) => {
+            let row = reply::some_row(f.flight_id);
+            reply::give(answer, &row)
+        }
+    }
+}
+
+// The twelve bytes of a stored flight.
+pub fn stored_row(f: StoredFlight) -> [u8; 12]
+    ensures { λ r. ⌜ r ≡ storedRow f ⌝ }
+{
+    let i = words::u32_bytes(f.flight_id);
+    let s = words::u32_bytes(f.start_page);
+    let p = words::u32_bytes(f.pages);
+    [
+        i[0],
+        i[1],
+        i[2],
+        i[3],
+        s[0],
+        s[1],
+        s[2],
+        s[3],
+        p[0],
+        p[1],
+        p[2],
+        p[3],
+    ]
+}
+
+fn found_row(f: StoredFlight) -> [u8; 13]
+    ensures { λ r. ⌜ r ≡ 1 ∷ storedRow f ⌝ }
+{
+    let b = stored_row(f);
+    [
+        1,
+        b[0],
+        b[1],
+        b[2],
+        b[3],
+        b[4],
+        b[5],
+        b[6],
+        b[7],
+        b[8],
+        b[9],
+        b[10],
+        b[11],
+    ]
+}
+
+pub fn lay_find(a: FindAnswer, answer: &mut [u8]) -> u32
+    ensures { λ r. ⌜ r ≡ rowReply 13 (now (answer .entry)) (laid foundRow (toldFind a)) ⌝ }
+    ensures { λ _. ⌜ now (answer .exit) ≡ rowAfter 13 (now (answer .entry)) (laid foundRow (toldFind a)) ⌝ }
+{
+    match a {
+        FindAnswer::Refused(refusal) => reply::refuse(refusal, answer.len(), 13),
+        FindAnswer::NotFound => {
+            let row = [0u8; 13];
+            reply::give(answer, &row)
+        }
+        FindAnswer::Found(f) => {
+            let row = found_row(f);
+            reply::give(answer, &row)
+        }
+    }
+}
+
+// A flag in the answer row.
+fn give_flag(b: bool, answer: &mut [u8]) -> u32
+    ensures { λ r. ⌜ r ≡ rowReply 1 (now (answer .entry)) (gives (flagRow b)) ⌝ }
+    ensures { λ _. ⌜ now (answer .exit) ≡ rowAfter 1 (now (answer .entry)) (gives (flagRow b)) ⌝ }
+{
+    let row = [reply::flag_of(b)];
+    reply::give(answer, &row)
+}
+
+pub fn lay_test(a: TestAnswer, answer: &mut [u8]) -> u32
+    ensures { λ r. ⌜ r ≡ rowReply 1 (now (answer .entry)) (laid flagRow (toldTest a)) ⌝ }
+    ensures { λ _. ⌜ now (answer .exit) ≡ rowAfter 1 (now (answer .entry)) (laid flagRow (toldTest a)) ⌝ }
+{
+    match a {
+        TestAnswer::Refused(refusal) => reply::refuse(refusal, answer.len(), 1),
+        TestAnswer::Passes => give_flag(true, answer),
+        TestAnswer::Fails => give_flag(false, answer),
+    }
+}
+
+pub fn lay_synced(a: SyncedAnswer, answer: &mut [u8]) -> u32
+    ensures { λ r. ⌜ r ≡ rowReply 1 (now (answer .entry)) (laid flagRow (toldSynced a)) ⌝ }
+    ensures { λ _. ⌜ now (answer .exit) ≡ rowAfter 1 (now (answer .entry)) (laid flagRow (toldSynced a)) ⌝ }
+{
+    match a {
+        SyncedAnswer::Refused(refusal) => reply::refuse(refusal, answer.len(), 1),
+        SyncedAnswer::Synced => give_flag(true, answer),
+        SyncedAnswer::NotSynced => give_flag(false, answer),
+    }
+}
+
+fn header_row(h: LedgerHeader) -> [u8; 1]
+    ensures { λ r. ⌜ r ≡ headerRow h ⌝ }
+{
+    match h {
+        LedgerHeader::Blank => [0],
+        LedgerHeader::Valid => [1],
+        LedgerHeader::Foreign => [2],
+    }
+}
+
+pub fn lay_header(a: HeaderAnswer, answer: &mut [u8]) -> u32
+    ensures { λ r. ⌜ r ≡ rowReply 1 (now (answer .entry)) (laid headerRow (toldHeader a)) ⌝ }
+    ensures { λ _. ⌜ now (answer .exit) ≡ rowAfter 1 (now (answer .entry)) (laid headerRow (toldHeader a)) ⌝ }
+{
+    match a {
+        HeaderAnswer::Refused(refusal) => reply::refuse(refusal, answer.len(), 1),
+        HeaderAnswer::Header(h) => {
+            let row = header_row(h);
+            reply::give(answer, &row)
+        }
+    }
+}
+
+fn bit_row(b: BitLocation) -> [u8; 5]
+    ensures { λ r. ⌜ r ≡ bitRow b ⌝ }
+{
+    let a = words::u32_bytes(b.address);
+    [a[0], a[1], a[2], a[3], b.mask]
+}
+
+pub fn lay_bit(a: BitAnswer, answer: &mut [u8]) -> u32
+    ensures { λ r. ⌜ r ≡ rowReply 5 (now (answer .entry)) (laid bitRow (toldBit a)) ⌝ }
+    ensures { λ _. ⌜ now (answer .exit) ≡ rowAfter 5 (now (answer .entry)) (laid bitRow (toldBit a)) ⌝ }
+{
+    match a {
+        BitAnswer::Refused(refusal) => reply::refuse(refusal, answer.len(), 5),
+        BitAnswer::At(b) => {
+            let row = bit_row(b);
+            reply::give(answer, &row)
+        }
+    }
+}
+
+fn step_numbers(kind: u8, address: u32, value: u8) -> [u8; 6]
+    ensures { λ r. ⌜ r ≡ stepNumbers kind address value ⌝ }
+{
+    let a = words::u32_bytes(address);
+    [kind, a[0], a[1], a[2], a[3], value]
+}
+
+fn step_row(s: MarkStep) -> [u8; 6]
+    ensures { λ r. ⌜ r ≡ stepRow s ⌝ }
+{
+    match s {
+        MarkStep::EraseLedger { address } => step_numbers(0, address, 0),
+        MarkStep::ProgramHeader { address } => step_numbers(1, address, 0),
+        MarkStep::ProgramBit { address, value } => step_numbers(2, address, value),
+        MarkStep::Done => step_numbers(3, 0, 0),
+    }
+}
+
+pub fn lay_step(a: StepAnswer, answer: &mut [u8]) -> u32
+    ensures { λ r. ⌜ r ≡ rowReply 6 (now (answer .entry)) (laid stepRow (toldStep a)) ⌝ }
+    ensures { λ _. ⌜ now (answer .exit) ≡ rowAfter 6 (now (answer .entry)) (laid stepRow (toldStep a)) ⌝ }
+{
+    match a {
+        StepAnswer::Refused(refusal) => reply::refuse(refusal, answer.len(), 6),
+        StepAnswer::Step(s) => {
+            let row = step_row(s);
+            reply::give(answer, &row)
+        }
+    }
+}
+
+// The step of a kind; Done from 3 on.
+pub fn step_of(kind: u8, address: u32, value: u8) -> MarkStep
+    ensures { λ r. ⌜ r ≡ stepOf kind address value ⌝ }
+{
+    if kind == 0 {
+        return MarkStep::EraseLedger { address };
+    }
+    if kind == 1 {
+        return MarkStep::ProgramHeader { address };
+    }
+    if kind == 2 {
+        return MarkStep::ProgramBit { address, value };
+    }
+    MarkStep::Done
+}
+
+// What is being recorded, by a flag and a number.
+pub fn recording_of(flag: u8, flight: u32) -> Recording
+    ensures { λ r. ⌜ r ≡ recordingOf flag flight ⌝ }
+{
+    if reply::is_set(flag) {
+        return Recording::Flight(flight);
+    }
+    Recording::Nothing
+}
+
+// What an acknowledgement returns.
+pub fn acknowledged(a: AckAnswer) -> u32
+    ensures { λ r. ⌜ r ≡ replyOf (toldAck a) ⌝ }
+{
+    match a {
+        AckAnswer::Accepted => 0,
+        AckAnswer::Refused(refusal) => reply::reply_of(refusal),
+    }
+}
