@@ -85,11 +85,6 @@ fn link_archive(root: &Path) {
     println!("cargo:rerun-if-changed={}", archive.display());
     println!("cargo:rustc-link-search=native={}", fs::canonicalize(folder).unwrap().display());
     println!("cargo:rustc-link-lib=static=stipeflute");
-    println!("cargo:rustc-check-cfg=cfg(rig)");
-    let symbol = b"stipeflute_rig";
-    if fs::read(&archive).unwrap().windows(symbol.len()).any(|part| part == symbol) {
-        println!("cargo:rustc-cfg=rig");
-    }
 }
 
 fn stop(why: &str) -> ! {

@@ -235,10 +235,6 @@ fn passes(random: &mut Seeded, count: u32, offers: u32, drains: bool) -> Vec<u8>
 }
 
 fn drain(random: &mut Seeded) {
-    if !ours::HAS_RIG {
-        println!("| drain | the archive has no player | | | |");
-        return;
-    }
     let with = play("32 passes of 16 records, played", &passes(random, 32, 16, true));
     let without = play("the same offers without drains", &passes(random, 32, 16, false));
     let less = |a: &[f64], b: &[f64]| -> Vec<f64> { a.iter().zip(b).map(|(a, b)| a - b).collect() };

@@ -567,9 +567,6 @@ pub fn no_script(run: &mut Run, board: &mut Board, index: u64) {
 }
 
 fn played(run: &mut Run, board: &mut Board, capacity: u32, image: &[u8], script: &[u8], rows: usize) {
-    if !ours::HAS_RIG {
-        return;
-    }
     let (mut one, mut other) = (image.to_vec(), image.to_vec());
     let asked = || format!("{} rows", script.len() / theirs::SCRIPT_ROW);
     let len = rows * theirs::PLAYED_ROW;

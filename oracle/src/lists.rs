@@ -1,5 +1,8 @@
-//! Fixed lists: recipes in text, one call to a line, and the Rust's answers to them, so that a program without Rust at hand can replay
-//! them. A list is made once (`--make-list`), its answers are written down (`--answers`), and both stand in the repository.
+//! A fixed list: recipes in text, one call to a line, and the Rust's answers to them, so that a program without Rust at hand can replay
+//! it. The program is the crate replay_run: its stdin is the list, its stdout the answers. They were made by
+//!
+//!   oracle/run --make-list --images 60 --lives 60 --seed 7 >crates/replay_run/stdin
+//!   oracle/run --answers crates/replay_run/stdin >crates/replay_run/stdout
 //!
 //! A line is a word and decimal numbers, parted by single spaces. Lines that build an image print nothing:
 //!
@@ -151,9 +154,6 @@ impl Player {
     }
 
     fn exports_play(&mut self, run: &mut Run, line: &str, told: &[u8]) {
-        if !ours::HAS_RIG {
-            return;
-        }
         let mut image = self.began.clone();
         let mut answer = vec![0u8; self.script.len() / theirs::SCRIPT_ROW * theirs::PLAYED_ROW];
         let reply = ours::rig(self.image.capacity, &mut image, &self.script, &mut answer);
@@ -243,17 +243,17 @@ impl Default for Player {
 
 // ---- making a list
 
-/// A list of images with questions, or of lives with their writers' operations.
-pub fn make(seed: u64, kind: &str, count: u64) -> Vec<String> {
+/// Calls without an image, images with questions, and writers' lives.
+pub fn make(seed: u64, images: u64, lives: u64) -> Vec<String> {
     let mut lines = Vec::new();
-    for index in 0..count {
-        let mut random = Seeded::new(seed, kind, index);
-        match kind {
-            "images" => make_image(&mut random, &mut lines),
-            "lives" => make_life(&mut random, &mut lines, index % 3 == 2),
-            "calls" => make_calls(&mut random, &mut lines, index),
-            _ => panic!("no such list: {kind}"),
-        }
+    for index in 0..images {
+        make_calls(&mut Seeded::new(seed, "calls", index), &mut lines, index);
+    }
+    for index in 0..images {
+        make_image(&mut Seeded::new(seed, "images", index), &mut lines);
+    }
+    for index in 0..lives {
+        make_life(&mut Seeded::new(seed, "lives", index), &mut lines, index % 3 == 2);
     }
     lines
 }

@@ -12,14 +12,18 @@ struct Asked {
     seed: u64,
     only: Option<String>,
     index: u64,
-    make_list: Option<String>,
+    make_list: bool,
     answers: Option<String>,
 }
 
 fn arguments() -> Asked {
-    let mut asked = Asked { images: 1000, lives: 200, seed: 1, only: None, index: 0, make_list: None, answers: None };
+    let mut asked = Asked { images: 1000, lives: 200, seed: 1, only: None, index: 0, make_list: false, answers: None };
     let mut words = std::env::args().skip(1);
     while let Some(word) = words.next() {
+        if word == "--make-list" {
+            asked.make_list = true;
+            continue;
+        }
         let Some(value) = words.next() else { usage(&word) };
         let number = || value.parse().unwrap_or_else(|_| usage(&value));
         match word.as_str() {
@@ -28,7 +32,6 @@ fn arguments() -> Asked {
             "--seed" => asked.seed = number(),
             "--index" => asked.index = number(),
             "--only" => asked.only = Some(value),
-            "--make-list" => asked.make_list = Some(value),
             "--answers" => asked.answers = Some(value),
             _ => usage(&word),
         }
@@ -40,7 +43,7 @@ fn usage(word: &str) -> ! {
     eprintln!("oracle: {word}?");
     eprintln!("usage: oracle [--images N] [--lives N] [--seed N]");
     eprintln!("       oracle --only KIND --index N [--seed N]");
-    eprintln!("       oracle --make-list calls|images|lives [--images N] [--lives N] [--seed N]");
+    eprintln!("       oracle --make-list [--images N] [--lives N] [--seed N]");
     eprintln!("       oracle --answers LIST");
     std::process::exit(2);
 }
@@ -78,9 +81,8 @@ fn main() {
     let asked = arguments();
     let mut run = Run::new(asked.seed);
     let mut board = Board::new();
-    if let Some(kind) = asked.make_list {
-        let count = if kind == "lives" { asked.lives } else { asked.images };
-        oracle::lists::make(asked.seed, &kind, count).iter().for_each(|line| println!("{line}"));
+    if asked.make_list {
+        oracle::lists::make(asked.seed, asked.images, asked.lives).iter().for_each(|line| println!("{line}"));
         return;
     }
     if let Some(list) = asked.answers {
@@ -116,9 +118,6 @@ fn main() {
         }
     }
     println!("{} lives and scripts in {:.1?}", asked.lives, began.elapsed());
-    if !oracle::ours::HAS_RIG {
-        println!("the archive has no stipeflute_rig: no life was compared");
-    }
     run.table();
     println!("no difference");
 }

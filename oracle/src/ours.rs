@@ -3,34 +3,6 @@
 
 use crate::blackbox::FlightRecord;
 
-/// Whether the archive has the writer's player.
-pub const HAS_RIG: bool = cfg!(rig);
-
-#[cfg(rig)]
-unsafe extern "C" {
-    fn stipeflute_rig(
-        capacity_bytes: u32,
-        image: *mut u8,
-        image_len: usize,
-        script: *const u8,
-        script_len: usize,
-        answer: *mut u8,
-        answer_len: usize,
-    ) -> u32;
-}
-
-/// The writer's player.
-#[cfg(rig)]
-pub fn rig(capacity_bytes: u32, image: &mut [u8], script: &[u8], answer: &mut [u8]) -> u32 {
-    let (image_at, image_len) = (image.as_mut_ptr(), image.len());
-    unsafe { stipeflute_rig(capacity_bytes, image_at, image_len, script.as_ptr(), script.len(), answer.as_mut_ptr(), answer.len()) }
-}
-
-#[cfg(not(rig))]
-pub fn rig(_capacity_bytes: u32, _image: &mut [u8], _script: &[u8], _answer: &mut [u8]) -> u32 {
-    panic!("the archive has no player")
-}
-
 unsafe extern "C" {
     fn stipeflute_crc32(bytes: *const u8, bytes_len: usize, answer: *mut u8, answer_len: usize) -> u32;
     fn stipeflute_record_encode(
@@ -218,6 +190,15 @@ unsafe extern "C" {
     fn stipeflute_unsynced_lines(flights: *const u8, flights_len: usize, count: u32, more: u8, answer: *mut u8, answer_len: usize) -> u32;
     fn stipeflute_ack_response(number: u8, answer: *mut u8, answer_len: usize) -> u32;
     fn stipeflute_assemble(script: *const u8, script_len: usize, answer: *mut u8, answer_len: usize) -> u32;
+    fn stipeflute_rig(
+        capacity_bytes: u32,
+        image: *mut u8,
+        image_len: usize,
+        script: *const u8,
+        script_len: usize,
+        output: *mut u8,
+        output_len: usize,
+    ) -> u32;
 }
 
 pub fn crc32(bytes: &[u8], answer: &mut [u8]) -> u32 {
@@ -524,4 +505,10 @@ pub fn ack_response(number: u8, answer: &mut [u8]) -> u32 {
 
 pub fn assemble(script: &[u8], answer: &mut [u8]) -> u32 {
     unsafe { stipeflute_assemble(script.as_ptr(), script.len(), answer.as_mut_ptr(), answer.len()) }
+}
+
+pub fn rig(capacity_bytes: u32, image: &mut [u8], script: &[u8], output: &mut [u8]) -> u32 {
+    unsafe {
+        stipeflute_rig(capacity_bytes, image.as_mut_ptr(), image.len(), script.as_ptr(), script.len(), output.as_mut_ptr(), output.len())
+    }
 }
