@@ -23,13 +23,14 @@
 //!   lines K M F        the lines of K flights, more M; entry i is flight F + i, start (i + 1) F mod 2^32, i pages
 //!
 //! Lines that play the writer print what the player tells after them, in decimal: outcome, writable, recording, unfinished (a flag),
-//! flush start (a flag), queue length; pages_written, records_dropped, write_faults; next page, next flight, unfinished flight, flush start:
+//! flush start (a flag), queue length; pages_written, records_dropped, write_faults; next page, next flight, unfinished flight, flush
+//! start:
 //!
 //!   power | offers N K S | drain A D S X M | write S X M | recover P F W | reset | flush B C
 //!
-//! where offers are K records numbered N, N + S, .., told of once after the last; A is armed, D record_while_disarmed, S the programs that succeed, X what the next does (0 busy, 1 fault, 2 cut).
-//! Byte j of record number n is (31 n + 7 j + n j) mod 256, so an odd number is an armed record. Byte i of mask number m is
-//! m (i + 1) mod 256.
+//! where offers are K records numbered N, N + S, .., told of once after the last; A is armed, D record_while_disarmed, S the programs that
+//! succeed, X what the next does (0 busy, 1 fault, 2 cut). Byte j of record number n is (31 n + 7 j + n j) mod 256, so an odd number is an
+//! armed record. Byte i of mask number m is m (i + 1) mod 256.
 
 use crate::blackbox::{FLASH_PAGE_LEN, FlightRecord, RECORD_LEN, encode_page};
 use crate::compare::{Run, hex};
