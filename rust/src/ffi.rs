@@ -202,4 +202,14 @@ extern "C" {
     pub fn stipeflute_ack_response(number: u8, answer: *mut u8, answer_len: usize) -> u32;
 
     pub fn stipeflute_assemble(script: *const u8, script_len: usize, answer: *mut u8, answer_len: usize) -> u32;
+
+    pub fn stipeflute_rig(
+        capacity_bytes: u32,
+        image: *mut u8,
+        image_len: usize,
+        script: *const u8,
+        script_len: usize,
+        output: *mut u8,
+        output_len: usize,
+    ) -> u32;
 }

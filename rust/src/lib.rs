@@ -10,6 +10,7 @@ mod codec;
 mod flash;
 mod log;
 mod sync;
+mod writer;
 
 pub use codec::{
     assemble, crc32, decode_page, encode_page, record_from_page, scratch_test_page, Assembled, AssemblerCall, FlightRecord,
@@ -21,6 +22,7 @@ pub use sync::{
     ack_response, all_synced, bit_location, check_ack, is_synced, next_mark_step, read_header, start_mark_step, unsynced_flights,
     unsynced_lines, LedgerHeader, MarkStep, Text, Unsynced, MAX_LISTED_FLIGHTS,
 };
+pub use writer::{play, NextProgram, Operation, Told, ROW_LEN, TELL_LEN};
 
 /// Why a call refused.
 #[derive(Clone, Copy, Debug, Eq, PartialEq)]
