@@ -2,7 +2,7 @@
 
 use stipeflute::ffi::*;
 
-const IMAGE: [u8; 20_480] = [0xff; 20_480];
+static IMAGE: [u8; 20_480] = [0xff; 20_480];
 
 /// A scan with an answer row of any length, which held 0xaa: the reply, and whether the row stayed.
 fn scan(capacity: u32, faults: &[u8], answer: &mut [u8]) -> (u32, bool) {

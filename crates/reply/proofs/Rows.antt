@@ -18,7 +18,7 @@ use Rattle.store.specs.Store.{leaves}
 use Rattle.store.specs.Store as Store
 use Rattle.store.specs.declared.StoreAnswer.{StoreAnswer}
 use Rattle.store.specs.declared.StoreAnswer.the-variants as Stored
-use Rattle.reply.specs.Reply.{replyOf, laid, rowed, heldAs, numberRow, optionRow}
+use Rattle.reply.specs.Reply.{replyOf, laid, rowed, heldAs, optionRow}
 
 -- the end of a call: what it returns, and what it leaves in the row
 pub record Ends (r reply : ℕ) (row after : List ℕ) : Type 0 where
@@ -123,6 +123,15 @@ row-stays wanted given number fault old = go (eqb number invalidLayout) (eqb giv
     go false true = refl
     go false false = refl
 
+-- 17 for another slice is 17, whatever length the row has
+pub length-first : (wanted given : ℕ) → badLength ≡ replyOf (rowed wanted given (refuses badLength 0))
+unfolding rowed
+length-first wanted given = go (eqb given wanted)
+  where
+    go : (b : Bool) → badLength ≡ replyOf {A = List ℕ} (must b badLength (refuses badLength 0))
+    go true = refl
+    go false = refl
+
 module _ {A : Type 0} (bytes : A → List ℕ) (wanted : ℕ) (told : Answer A) (old : List ℕ) (r : ℕ) where
   -- the answer refuses
   pub row-refused : (x : Refusal) → told ≡ refuses (x .number) (x .fault)
@@ -152,10 +161,6 @@ pub held-given : {A : Type 0} (number : ℕ) (value : A) → number ≡ 0 → he
 held-given number value w = rw (eq-eqb number 0 w) refl
 
 -- ---- the length of a row
-
-pub number-long : (n : ℕ) → length (numberRow n) ≡ 4
-unfolding leBytes
-number-long n = refl
 
 pub option-long : (o : Option ℕ) → length (optionRow o) ≡ 5
 unfolding leBytes

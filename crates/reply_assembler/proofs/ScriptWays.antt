@@ -25,7 +25,7 @@ use Rattle.assembler.specs.declared.UnfinishedFlight.{UnfinishedFlight}
 use Rattle.assembler.specs.declared.UnfinishedFlight.the-variants as Unfinished
 use Rattle.assembler.proofs.Laws.{new-is-sound, start-keeps, push-keeps, stop-keeps, take-keeps}
 use Rattle.reply.specs.Reply.{isSet, flagOf, replyOf, laid, rowed}
-use Rattle.reply.proofs.Rows.{Ends, row-stays}
+use Rattle.reply.proofs.Rows.{Ends, row-stays, length-first}
 use Rattle.reply_assembler.specs.Script.{playedAs, flagged, assembled, took, foundUnfinished, playRow, playFrom, playScript, playedRow, toldPlayed, lastPlayed}
 use Rattle.reply_assembler.specs.declared.Played.{Played}
 
@@ -154,14 +154,6 @@ played-parts p head h = ap (λ (x : List ℕ). x ++ p .page) h
 
 -- ---- lay_script
 
-length-first : (given : ℕ) → badLength ≡ replyOf (rowed 261 given (refuses badLength 0))
-unfolding rowed
-length-first given = go (eqb given 261)
-  where
-    go : (b : Bool) → badLength ≡ replyOf {A = List ℕ} (must b badLength (refuses badLength 0))
-    go true = refl
-    go false = refl
-
 module _ (script old : List ℕ) (r : ℕ) where
   pub script-length : (x : Refusal) → (length script % 54 ≡ 0 → ⊥) → x ≡ refusal badLength 0 → r ≡ x .number + 256 * x .fault
       → Ends r (replyOf (rowed 261 (length old) (laid playedRow (lastPlayed script)))) old
@@ -169,7 +161,7 @@ module _ (script old : List ℕ) (r : ℕ) where
   unfolding lastPlayed
   script-length x n w h =
       let is : r ≡ badLength = h ∙ rw w refl in
-      rw (ne-eqb (length script % 54) 0 n) (record { returned = is ∙ length-first (length old); left = sym (row-stays 261 (length old) badLength 0 old) })
+      rw (ne-eqb (length script % 54) 0 n) (record { returned = is ∙ length-first 261 (length old); left = sym (row-stays 261 (length old) badLength 0 old) })
 
   pub script-laid : (p : Played) (new : List ℕ) → length script % 54 ≡ 0 → p ≡ playScript script
       → r ≡ replyOf (rowed 261 (length old) (laid playedRow (toldPlayed p))) → new ≡ leaves old (rowed 261 (length old) (laid playedRow (toldPlayed p)))

@@ -21,7 +21,7 @@ use Rattle.layout.specs.declared.AddressAnswer.{AddressAnswer}
 use Rattle.layout.specs.declared.AddressAnswer.the-variants as Address
 use Rattle.layout.specs.declared.StorageLayout.{StorageLayout}
 use Rattle.layout.specs.declared.LayoutAnswer.{LayoutAnswer}
-use Rattle.blackbox.specs.Record.{recordOf, recordBytes, recordDecoded, recordAnswer}
+use Rattle.blackbox.specs.Record.{recordOf, recordDecoded, recordAnswer}
 use Rattle.blackbox.specs.Page.{encoded, encodedPage, pageAnswer, decodedAs, rowsIn, recordsIn, recordFromPage}
 use Rattle.blackbox.specs.Page as Page
 use Rattle.blackbox.specs.declared.FlightRecord.{FlightRecord}
@@ -61,10 +61,6 @@ layout-long l = refl
 pub metadata-long : (m : PageMetadata) → length (metadataRow m) ≡ 9
 unfolding metadataRow leBytes
 metadata-long m = refl
-
-pub record-long : (r : FlightRecord) → length (recordBytes r) ≡ 48
-unfolding recordBytes leBytes
-record-long r = refl
 
 -- ---- what was held is told again, since no number of a refusal is 0
 

@@ -21,8 +21,9 @@ use Rattle.log_sync.specs.declared.Unsynced.{Unsynced}
 use Rattle.log_lines.specs.Lines.{unsyncedLines, unsynced, lineOf, linesAnswer}
 use Rattle.log_lines.specs.declared.Line.{Line}
 use Rattle.log_lines.specs.declared.Lines.{Lines}
+use Rattle.log_lines.proofs.Listing.{absent}
 use Rattle.reply.specs.Reply.{isSet, flagOf, replyOf, laid, rowed}
-use Rattle.reply.proofs.Rows.{Ends, row-stays}
+use Rattle.reply.proofs.Rows.{Ends, row-stays, length-first}
 use Rattle.reply_log.specs.LogRows.{storedRow}
 use Rattle.reply_text.specs.TextRows.{toldList, listRow, textRow, toldLines, linesRow, flightsIn, linesOf}
 
@@ -38,10 +39,6 @@ rows-long (f ∷ fs) = (stored-long f, rows-long fs)
 
 length-rows : (fs : List StoredFlight) → length (joined (map storedRow fs)) ≡ 12 * length fs
 length-rows fs = length-joined 12 (map storedRow fs) (rows-long fs) ∙ ap (λ (k : ℕ). 12 * k) (length-map fs storedRow)
-
--- what an index past the end of an array of flights reads
-abbrev pub absent : StoredFlight
-absent = record { «flight_id» = 0; «start_page» = 0; pages = 0 }
 
 -- one turn of the loop
 pub entry-more : (fs : List StoredFlight) (i : ℕ) → i < 8 → length fs ≡ 8 → (rows row rows′ : List ℕ)
@@ -111,14 +108,6 @@ lines-parts lines head h = ap (λ (x : List ℕ). x ++ lines .text) h
 
 -- ---- lay_unsynced_lines
 
-length-first : (given : ℕ) → badLength ≡ replyOf (rowed 476 given (refuses badLength 0))
-unfolding rowed
-length-first given = go (eqb given 476)
-  where
-    go : (b : Bool) → badLength ≡ replyOf {A = List ℕ} (must b badLength (refuses badLength 0))
-    go true = refl
-    go false = refl
-
 pub lines-length : (flights : List ℕ) (count more : ℕ) (old : List ℕ) (x : Refusal) (r : ℕ) → (length flights ≡ 96 → ⊥) → x ≡ refusal badLength 0
     → r ≡ x .number + 256 * x .fault
     → Ends r (replyOf (rowed 476 (length old) (laid (textRow 472) (linesOf flights count more)))) old
@@ -126,7 +115,7 @@ pub lines-length : (flights : List ℕ) (count more : ℕ) (old : List ℕ) (x :
 unfolding linesOf
 lines-length flights count more old x r n w h =
     let is : r ≡ badLength = h ∙ rw w refl in
-    rw (ne-eqb (length flights) 96 n) (record { returned = is ∙ length-first (length old); left = sym (row-stays 476 (length old) badLength 0 old) })
+    rw (ne-eqb (length flights) 96 n) (record { returned = is ∙ length-first 476 (length old); left = sym (row-stays 476 (length old) badLength 0 old) })
 
 -- the lines as they are held are the text
 lines-told : (fs : List StoredFlight) (count : ℕ) (more : Bool) → laid linesRow (toldLines (linesAnswer (unsynced fs count more))) ≡ laid (textRow 472) (unsynced fs count more)
