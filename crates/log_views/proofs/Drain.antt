@@ -33,7 +33,7 @@ use Rattle.log_pages.specs.Store.{pagesOf}
 use Rattle.log_pages.proofs.Real.{real}
 use Rattle.log_views.specs.Views.{asWriter, asNext, asPass}
 use Rattle.log_views.proofs.Steps.{stopped-is}
-use Rattle.log_views.proofs.Turns.{Is, stepped, turn-is}
+use Rattle.log_views.proofs.Turns.{viewedAs, Is, stepped, turn-is}
 
 -- a pass of the theory is a pass of the code, with an image, and with something logged and something left unfinished
 pub record Ends (pages : ℕ) (next : NextProgram) (keep : List ℕ) (t : Theory.Pass real) (p : Pass) (image : List ℕ) : Type 0 where
@@ -101,18 +101,7 @@ module _ (pages : ℕ) (next : NextProgram) (keep : List ℕ) (whileDisarmed : B
 
   module _ (armed : Bool) (limit : ℕ) (p : Pass) (image : List ℕ) (l : List (ℕ × FlightRecord)) (u : Option (List ℕ × List ℕ)) where
     abbrev viewed : Model.Writer real → List FlightRecord → Theory.Pass real
-    viewed w queue =
-        record {
-          log = pagesOf pages image;
-          writer = w;
-          queue = queue;
-          succeed = p .succeed;
-          next = asNext next keep;
-          pagesWritten = p .«pages_written»;
-          logged = l;
-          unfinished = u;
-          powerGone = p .cut;
-        }
+    viewed w queue = viewedAs (pagesOf pages image) w queue (p .succeed) (asNext next keep) (p .«pages_written») l u (p .cut)
 
     abbrev view : Theory.Pass real
     view = asPass pages next keep p image l u

@@ -40,6 +40,12 @@ use Rattle.log_views.specs.Views.{ifThere, asWriter, asNext, asPass}
 use Rattle.log_views.proofs.Images.{pages-programmed}
 use Rattle.log_views.proofs.Steps.{fetched-is, logged-is}
 
+-- a pass of the theory by its fields
+abbrev pub viewedAs : List (List ℕ) → Model.Writer real → List FlightRecord → ℕ → Theory.Next (List ℕ) → ℕ → List (ℕ × FlightRecord)
+    → Option (List ℕ × List ℕ) → Bool → Theory.Pass real
+viewedAs log w queue g next count l u gone =
+    record { log = log; writer = w; queue = queue; succeed = g; next = next; pagesWritten = count; logged = l; unfinished = u; powerGone = gone }
+
 -- a call that goes on, or has ended
 abbrev pub stepped : Bool → Theory.Pass real → Theory.Step real
 stepped true p = Theory.Step.goes-on p
@@ -73,17 +79,7 @@ module _ (pages : ℕ) (next : NextProgram) (keep : List ℕ) where
     -- the view with another writer, queue and more logged
     abbrev viewedWith : Model.Writer real → List FlightRecord → List (ℕ × FlightRecord) → Theory.Pass real
     viewedWith w queue more =
-        record {
-          log = pagesOf pages image;
-          writer = w;
-          queue = queue;
-          succeed = p .succeed;
-          next = asNext next keep;
-          pagesWritten = p .«pages_written»;
-          logged = more;
-          unfinished = u;
-          powerGone = p .cut;
-        }
+        viewedAs (pagesOf pages image) w queue (p .succeed) (asNext next keep) (p .«pages_written») more u (p .cut)
 
     takes-none : p .queue .held ≡ 0 → Theory.takeNext real whileDisarmed (recordsHeld (p .queue)) viewed ≡ stepped (takingRecord whileDisarmed p .going) (asPass pages next keep (takingRecord whileDisarmed p) image l u)
     unfolding takingRecord halted
@@ -121,12 +117,6 @@ module _ (pages : ℕ) (next : NextProgram) (keep : List ℕ) where
         go (suc n) e = record { logged = l ++ entry; unfinished = u; same = takes-one n e on s empty free }
 
 -- ---- a page that waits is programmed
-
--- the view with another log, writer, count of pages and what an unfinished program left
-abbrev viewedAs : List (List ℕ) → Model.Writer real → List FlightRecord → ℕ → Theory.Next (List ℕ) → ℕ → List (ℕ × FlightRecord)
-    → Option (List ℕ × List ℕ) → Bool → Theory.Pass real
-viewedAs log w queue g next count l u gone =
-    record { log = log; writer = w; queue = queue; succeed = g; next = next; pagesWritten = count; logged = l; unfinished = u; powerGone = gone }
 
 pub fresh-is : asWriter fresh ≡ Model.new real
 unfolding fresh Assembler.fresh
