@@ -1,7 +1,7 @@
 //! Names the nine Rust files by path, so that they are built unchanged, and links the archive of the C exports.
 //!
 //! FERROWASP_SRC is the folder that holds the files (default: ../shared/docs/src beside the project's root). Each file's
-//! SHA-256 must be the one in sources.sha256, or the build stops. STIPEFLUTE_LIB is the folder with libstipeflute.a.
+//! SHA-256 must be the one in sources.sha256, or the build stops. STIPEFLUTE_LIB is the folder with libstipeflute.a, or `none`.
 
 #[path = "build/sha256.rs"]
 mod sha256;
@@ -73,7 +73,13 @@ fn with_child(file: &Path, name: &str, reached: &str, out: &Path) -> PathBuf {
 }
 
 fn link_archive(root: &Path) {
+    println!("cargo:rustc-check-cfg=cfg(alone)");
     println!("cargo:rerun-if-env-changed=STIPEFLUTE_LIB");
+    if env::var("STIPEFLUTE_LIB").as_deref() == Ok("none") {
+        // Only the Rust's own answers are asked for (the program `answers`): no export is called, so none has to be there.
+        println!("cargo:rustc-cfg=alone");
+        return;
+    }
     let folder = match env::var("STIPEFLUTE_LIB") {
         Ok(folder) => PathBuf::from(folder),
         Err(_) => root.join("target/archive"),

@@ -20,10 +20,16 @@ include!(concat!(env!("OUT_DIR"), "/ferrowasp.rs"));
 
 pub mod compare;
 pub mod images;
+#[cfg(not(alone))]
 pub mod kinds;
 pub mod life;
 pub mod lists;
+#[cfg(not(alone))]
 pub mod ours;
 pub mod scripts;
 pub mod seeded;
 pub mod theirs;
+
+/// Without the archive the Rust stands beside itself: its answers alone are asked for.
+#[cfg(alone)]
+pub use theirs as ours;

@@ -154,6 +154,10 @@ impl Player {
         told_text(&told)
     }
 
+    #[cfg(alone)]
+    fn exports_play(&mut self, _run: &mut Run, _line: &str, _told: &[u8]) {}
+
+    #[cfg(not(alone))]
     fn exports_play(&mut self, run: &mut Run, line: &str, told: &[u8]) {
         let mut image = self.began.clone();
         let mut answer = vec![0u8; self.script.len() / theirs::SCRIPT_ROW * theirs::PLAYED_ROW];
@@ -376,4 +380,16 @@ fn make_life(random: &mut Seeded, lines: &mut Vec<String>, any: bool) {
     lines.push("power".into());
     lines.push("scan".into());
     lines.push("crc 12288 4096".into());
+}
+
+/// The Rust's answers to the lines of a list, which are also the exports' where these are linked.
+pub fn answer(run: &mut Run, list: &str) -> Vec<String> {
+    let text = std::fs::read_to_string(list).unwrap_or_else(|error| panic!("{list}: {error}"));
+    let mut player = Player::new();
+    let mut answers = Vec::new();
+    for (number, line) in text.lines().enumerate() {
+        run.shape = format!("line {} of {list}", number + 1);
+        answers.extend(player.line(run, line));
+    }
+    answers
 }

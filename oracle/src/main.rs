@@ -4,7 +4,6 @@
 use oracle::compare::Run;
 use oracle::kinds;
 use oracle::life::Board;
-use oracle::lists::Player;
 
 struct Asked {
     images: u64,
@@ -65,18 +64,6 @@ fn one(run: &mut Run, board: &mut Board, kind: &str, index: u64) {
     }
 }
 
-/// The Rust's answers to a list, which are also the exports'.
-fn answers(run: &mut Run, list: &str) {
-    let text = std::fs::read_to_string(list).unwrap_or_else(|error| usage(&format!("{list}: {error}")));
-    let mut player = Player::new();
-    for (number, line) in text.lines().enumerate() {
-        run.shape = format!("line {} of {list}", number + 1);
-        if let Some(answer) = player.line(run, line) {
-            println!("{answer}");
-        }
-    }
-}
-
 fn main() {
     let asked = arguments();
     let mut run = Run::new(asked.seed);
@@ -86,7 +73,7 @@ fn main() {
         return;
     }
     if let Some(list) = asked.answers {
-        answers(&mut run, &list);
+        oracle::lists::answer(&mut run, &list).iter().for_each(|answer| println!("{answer}"));
         return;
     }
     if let Some(kind) = asked.only {
