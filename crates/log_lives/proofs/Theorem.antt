@@ -41,7 +41,7 @@ use Rattle.rig.specs.Rig.{unpowered, noFaults, played, imageAfter, plays, plays
 use Rattle.rig.specs.declared.Bench.{Bench}
 use Rattle.rig.proofs.Laws.{unpowered-sound}
 use Rattle.log_lives.specs.Lives.{OfLife, EachOfLife, callsOf, lifeFrom, lifeOf, deviceBefore, deviceAfter, NoneDecodes, nextOf, keepOf, operationOf, operationsOf}
-use Rattle.log_lives.specs.Theorem.{Plays, logOf, Erased, Assumed, loggedIn, Safe, Demand3, RecordsStay, NotWritable, MaskFits, Fits, AllFit, ScriptOf, EveryLifeHasScript}
+use Rattle.log_lives.specs.Theorem.{Plays, logOf, Erased, Assumed, loggedIn, Safe, Demand3, RecordsStay, NotWritable, ScriptsCallTheWriter, MaskFits, Fits, AllFit, ScriptOf, EveryLifeHasScript}
 use Rattle.log_lives.proofs.Lives.{deviceOf, Reaches, Fine, none-faulty, one-a-page, goes, fine-after, lives-append, all-go, all-only-log}
 
 -- ---- the assumptions
@@ -316,3 +316,7 @@ every-life-has-script c image v l life h =
           ∙ life-back c life unpowered image [] [] (record { valid = v; whole = l; sound = unpowered-sound })
           (subst (AllFit life) (begun-is c image) h);
     }
+
+pub scripts-call-the-writer : ScriptsCallTheWriter
+unfolding played imageAfter
+scripts-call-the-writer c limit whileDisarmed armed succeed next keep b image = (refl, refl, refl, refl)

@@ -26,12 +26,14 @@ use Rattle.records.specs.Scan.{scanned}
 use Rattle.records.specs.declared.Scan.{Scan}
 use Rattle.log_search.specs.Search.{foundFlight}
 use Rattle.log_writer.specs.Calls.{drained, afterDrain, pageWritten, afterWrite}
+use Rattle.log_writer.specs.declared.NextProgram.{NextProgram}
 use Rattle.log_pages.specs.Store.{pagesOf}
 use Rattle.log_pages.proofs.Real.{real}
 use Rattle.log_pages.proofs.Scan.{asScan}
 use Rattle.log_pages.proofs.Search.{asFound}
-use Rattle.script.specs.Script.{Operation, powers, isScript, rowsIn, operations}
-use Rattle.rig.specs.Rig.{noFaults, afterPlay}
+use Rattle.script.specs.Script.{Operation, drains, writes, powers, isScript, rowsIn, operations}
+use Rattle.rig.specs.Rig.{draining, writing, noFaults, played, imageAfter, afterPlay}
+use Rattle.rig.specs.declared.Bench.{Bench}
 use Rattle.log_lives.specs.Lives.{EachOfLife, lifeOf, deviceBefore, deviceAfter, NoneDecodes}
 
 -- a script of a life that is played: nothing is refused, neither the capacity nor a length nor a row
@@ -97,6 +99,19 @@ NotWritable =
     → Plays capacity image longer output′ → operations longer ≡ operations script ++ powers ∷ more
     → scanned capacity (afterPlay capacity image script output) (noFaults capacity) ≡ gives s → s .writable ≡ false
     → logOf capacity (afterPlay capacity image longer output′) ≡ logOf capacity (afterPlay capacity image script output)
+
+-- ---- what is played is the writer
+
+-- a drain and a write_pending of a script are those of log_writer's contracts: what they answer, and the image they leave
+abbrev pub ScriptsCallTheWriter : Type 0
+ScriptsCallTheWriter =
+    (capacity limit : ℕ) (whileDisarmed armed : Bool) (succeed : ℕ) (next : NextProgram) (keep : List ℕ) (b : Bench) (image : List ℕ)
+    → (played capacity (drains limit whileDisarmed armed succeed next keep) b image
+    ≡ draining (drained limit capacity image keep next whileDisarmed armed (b .writer) (b .queue) succeed))
+    × (imageAfter capacity (drains limit whileDisarmed armed succeed next keep) b image
+    ≡ afterDrain limit capacity image keep next whileDisarmed (b .writer) (b .queue) succeed)
+    × (played capacity (writes succeed next keep) b image ≡ writing (pageWritten capacity image keep next (b .writer) (b .queue) succeed))
+    × (imageAfter capacity (writes succeed next keep) b image ≡ afterWrite capacity image keep next (b .writer) succeed)
 
 -- ---- no life is left out
 
