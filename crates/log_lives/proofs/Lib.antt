@@ -1,2 +1,7 @@
 pub mod Lives
 pub mod Theorem
+pub mod Ghost
+pub mod Scripts
+pub mod Every
+pub mod Boards
+pub mod Spared

@@ -1,53 +1,51 @@
 -- What the rig plays is the life of its script: each operation is its calls of the theory on the view, and so is a list of them. The image
 -- keeps its length, and nothing outside the log changes. Assumes nothing.
-use Prim.Native.Nat.{ℕ, zero, suc, _+_, _*_, _/_, _≤_, _<_}
-use mathlib.Core.Path.{_≡_, refl, sym, ap, ap₂, _∙_, subst}
-use mathlib.Core.Bool.{Bool, true, false, cond}
+use Prim.Native.Nat.{ℕ, zero, suc, _+_, _*_, _/_, _≤_}
+use mathlib.Core.Path.{_≡_, refl, sym, ap, ap₂, _∙_}
+use mathlib.Core.Bool.{Bool, true, false, cond, false≢true}
 use mathlib.Core.List.{List, [], _∷_, _++_}
 use mathlib.Core.Option.{none}
 use native.Mathlib.Omega.{arith}
 use borrow.Author.Tests.{ltb-true, ltb-false}
 use lib.Dec.{ltb}
 use lib.ListN.{length, getD, replicate, length-replicate}
-use Rattle.laws.specs.Answers.{Answer, gives, refuses}
+use Rattle.laws.specs.Answers.{Answer, gives}
 use Rattle.power.specs.Writer as Model
 use Rattle.power.specs.Calls as Theory
 use Rattle.power.specs.Scan as Theory-scan
-use Rattle.power.specs.Life.{Call, Device}
+use Rattle.power.specs.Life.{Device}
 use Rattle.power.specs.Life as Life
 use Rattle.layout.specs.Layout.{logStart, validCapacity, pagesIn}
-use Rattle.store.specs.Store.{onMask, leaves}
+use Rattle.store.specs.Store.{leaves}
 use Rattle.store.specs.Laws.{OnlyAt}
+use Rattle.power.proofs.Moments.{lives-append}
 use Rattle.blackbox.specs.declared.FlightRecord.{FlightRecord}
-use Rattle.records.specs.Scan.{scanned}
 use Rattle.records.specs.declared.Scan.{Scan}
 use Rattle.assembler.specs.Assembler as Assembler
 use Rattle.queue.specs.Queue.{recordsHeld, empty, offered}
 use Rattle.queue.specs.declared.RecordQueue.{RecordQueue}
-use Rattle.queue.proofs.Laws.{holds-at-most-31, offer-appends, new-is-empty}
+use Rattle.queue.proofs.Laws.{holds-at-most-31, offer-appends}
+use Rattle.log_state.specs.Flush.{withSince, flushed}
 use Rattle.log_state.specs.Writer.{fresh, recovered}
-use Rattle.log_state.specs.declared.LogWriter.{LogWriter}
-use Rattle.log_writer.specs.Pass.{begin, drainPass, drainImage}
-use Rattle.log_writer.specs.Calls.{drainTold, writeTold, drained, afterDrain, pageWrite, writeImage, pageWritten, afterWrite}
+use Rattle.log_writer.specs.Pass.{begin}
+use Rattle.log_writer.specs.Calls.{drainTold, writeTold, drained, afterDrain, writeImage, pageWritten, afterWrite}
 use Rattle.log_writer.specs.WellFormed.{OnLog}
 use Rattle.log_writer.specs.declared.Pass.{Pass}
-use Rattle.log_writer.specs.declared.DrainAnswer.{DrainAnswer}
 use Rattle.log_writer.specs.declared.WriteAnswer.{WriteAnswer}
 use Rattle.log_writer.specs.declared.NextProgram.{NextProgram}
 use Rattle.log_writer.proofs.Checks.{passed-log}
 use Rattle.log_laws.proofs.OnlyLog.{only-same, only-then, has-room, drain-only-log, write-only-log}
-use Rattle.log_pages.specs.Store.{pagesOf}
-use Rattle.log_pages.proofs.Real.{real}
-use Rattle.log_pages.proofs.Scan.{NoFaults, asScan, scan-is-theory}
-use Rattle.log_views.specs.Views.{asWriter, asNext, asPass}
+use Rattle.log_pages.specs.Store.{real, pagesOf}
+use Rattle.log_pages.proofs.Real.{real-lawful}
+use Rattle.log_pages.proofs.Scan.{NoFaults, scan-is-theory}
+use Rattle.log_views.specs.Views.{asWriter, asPass}
 use Rattle.log_views.proofs.Drain.{drain-is}
 use Rattle.log_views.proofs.Write.{write-is}
 use Rattle.script.specs.Script.{Operation, offers, drains, writes, powers, recovers, resets, flushes}
 use Rattle.script.specs.Laws.{Writes, EachWrites}
-use Rattle.rig.specs.Rig.{bench, unpowered, draining, writing, powering, noFaults, played, imageAfter, plays, playsImage}
+use Rattle.rig.specs.Rig.{bench, draining, writing, powering, noFaults, played, imageAfter, plays, playsImage}
 use Rattle.rig.specs.Laws.{SoundBench}
 use Rattle.rig.specs.declared.Bench.{Bench}
-use Rattle.rig.specs.declared.Played.{Played}
 use Rattle.rig.proofs.Laws.{operation-keeps}
 use Rattle.log_lives.specs.Lives.{OfLife, EachOfLife, callsOf, lifeFrom}
 
@@ -164,6 +162,12 @@ module _ (capacity : ℕ) (b : Bench) (image : List ℕ) (f : Fine capacity b im
             (sym (scan-is-theory capacity image (noFaults capacity) (f .valid) (f .whole) (one-a-page capacity) (none-faulty capacity)));
       }
 
+  -- the start time of the write-back buffer is no part of the view
+  flush-goes : (buffered : Bool) (clock : ℕ) → buffered ≡ false → Goes (flushes buffered clock)
+  unfolding played imageAfter flushed withSince
+  flush-goes true clock e = absurd (false≢true (sym e))
+  flush-goes false clock e = record { past = past; now = now; same = refl }
+
   pub goes : (o : Operation) → OfLife o → Writes o → Goes o
   goes (offers r) l w = offer-goes r
   goes (drains limit whileDisarmed armed succeed next keep) l w = drain-goes limit whileDisarmed armed succeed next keep (w .2)
@@ -171,7 +175,7 @@ module _ (capacity : ℕ) (b : Bench) (image : List ℕ) (f : Fine capacity b im
   goes powers l w = power-goes
   goes (recovers page flight writable) l w = absurd l
   goes resets l w = absurd l
-  goes (flushes buffered clock) l w = absurd l
+  goes (flushes buffered clock) l w = flush-goes buffered clock l
 
 -- ---- the image
 
@@ -195,10 +199,6 @@ fine-after c o b image f =
 
 -- ---- a list of operations
 
-pub lives-append : (a b : List (Call real)) (d : Device real) → Life.lives real (a ++ b) d ≡ Life.lives real b (Life.lives real a d)
-lives-append [] b d = refl
-lives-append (c ∷ a) b d = lives-append a b (Life.call real c d)
-
 pub all-go : (capacity : ℕ) (os : List Operation) (b : Bench) (image : List ℕ) → Fine capacity b image → EachOfLife os → EachWrites os
     → (past : List (List (ℕ × FlightRecord))) (now : List (ℕ × FlightRecord))
     → Reaches (pagesIn capacity) (Life.lives real (lifeFrom capacity os b image) (deviceOf (pagesIn capacity) b image past now)) (plays capacity os b image)
@@ -214,7 +214,7 @@ all-go c (o ∷ os) b image f l w past now =
       past = t .past;
       now = t .now;
       same =
-          lives-append (callsOf o b) (lifeFrom c os b′ image′) (deviceOf (pagesIn c) b image past now)
+          lives-append real real-lawful (callsOf o b) (lifeFrom c os b′ image′) (deviceOf (pagesIn c) b image past now)
           ∙ ap (Life.lives real (lifeFrom c os b′ image′)) (h .same) ∙ t .same;
     }
 

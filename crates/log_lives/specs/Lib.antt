@@ -1,2 +1,5 @@
 pub mod Lives
 pub mod Theorem
+pub mod Scripts
+pub mod Boards
+pub mod Spared

@@ -1,26 +1,24 @@
 -- The life that a script plays: its operations as calls of the theory `power`, whose history says what was logged in each power-on.
-use Prim.Native.Nat.{ℕ, _<_}
+use Prim.Native.Nat.{ℕ}
 use mathlib.Core.Path.{_≡_}
-use mathlib.Core.Bool.{cond}
+use mathlib.Core.Bool.{cond, false}
 use mathlib.Core.List.{List, [], _∷_, _++_}
 use lib.Dec.{ltb}
-use lib.ListN.{length, replicate}
+use lib.ListN.{replicate}
 use Rattle.power.specs.Calls.{Next}
 use Rattle.power.specs.Life.{Call, Device}
 use Rattle.power.specs.Life as Life
-use Rattle.blackbox.specs.Record.{Fit}
-use Rattle.blackbox.specs.declared.FlightRecord.{FlightRecord}
 use Rattle.layout.specs.Layout.{pagesIn}
-use Rattle.log_pages.specs.Store.{pagesOf}
-use Rattle.log_pages.proofs.Real.{real}
+use Rattle.log_pages.specs.Store.{real, pagesOf}
 use Rattle.log_views.specs.Views.{asNext}
 use Rattle.log_writer.specs.declared.NextProgram.{NextProgram}
 use Rattle.log_writer.specs.declared.NextProgram.the-variants.{Busy, Fault, Cut}
 use Rattle.script.specs.Script.{Operation, offers, drains, writes, powers, recovers, resets, flushes, operations}
-use Rattle.rig.specs.Rig.{unpowered, played, imageAfter}
+use Rattle.rig.specs.Rig.{unpowered, played, imageAfter, plays, playsImage}
 use Rattle.rig.specs.declared.Bench.{Bench}
 
--- an operation of a life: "Power comes on any number of times, each with a fresh writer set by one scan alone"
+-- an operation of a life: "Power comes on any number of times, each with a fresh writer set by one scan alone". A flush with nothing buffered is one
+-- too, as the firmware calls it at the top of each pass: it clears the writer's start time, and calls nothing.
 abbrev pub OfLife : Operation → Type 0
 OfLife (offers r) = Unit {0}
 OfLife (drains limit whileDisarmed armed succeed next keep) = Unit {0}
@@ -28,7 +26,7 @@ OfLife (writes succeed next keep) = Unit {0}
 OfLife powers = Unit {0}
 OfLife (recovers page flight writable) = ⊥
 OfLife resets = ⊥
-OfLife (flushes buffered clock) = ⊥
+OfLife (flushes buffered clock) = buffered ≡ false
 
 abbrev pub EachOfLife : List Operation → Type 0
 EachOfLife [] = Unit {0}
@@ -52,6 +50,11 @@ lifeFrom capacity (o ∷ os) b image = callsOf o b ++ lifeFrom capacity os (play
 -- the life of a script, from before the first power-on
 abbrev pub lifeOf : ℕ → List ℕ → List ℕ → List (Call real)
 lifeOf capacity image script = lifeFrom capacity (operations script) unpowered image
+
+-- the life that some operations play where a script ends
+abbrev pub lifeAfter : ℕ → List ℕ → List ℕ → List Operation → List (Call real)
+lifeAfter capacity image script more =
+    lifeFrom capacity more (plays capacity (operations script) unpowered image) (playsImage capacity (operations script) unpowered image)
 
 -- the device of the theory before it, and after it
 abbrev pub deviceBefore : ℕ → List ℕ → Device real

@@ -1,4 +1,4 @@
-pub mod Decide
 pub mod Real
+pub mod Spared
 pub mod Scan
 pub mod Search

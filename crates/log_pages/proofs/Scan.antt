@@ -2,24 +2,24 @@
 -- same flight. Assumes nothing.
 use Prim.Native.Nat.{ℕ, zero, suc, _+_, _-_, _*_, _/_, _≤_, _<_}
 use mathlib.Core.Path.{_≡_, refl, sym, ap, ap₂, _∙_}
-use mathlib.Core.Bool.{Bool, true, false, cond}
+use mathlib.Core.Bool.{Bool, true, false, cond, false≢true}
 use mathlib.Core.List.{List, [], _∷_}
 use mathlib.Core.Option.{Option, none, some}
 use native.Mathlib.Nat.{add-zero, add-suc, suc-add}
 use native.Mathlib.Omega.{arith}
 use borrow.Author.Tests.{eq-eqb, ne-eqb, eqb-true}
 use lib.Dec.{eqb, ltb}
-use lib.ListN.{length, getD, take, drop, replicate, length-drop}
+use lib.ListN.{length, getD, drop, replicate, length-drop}
 use lib.Seq.{length-take-le}
-use Rattle.laws.specs.Answers.{Answer, gives, refuses, then}
+use Rattle.laws.specs.Answers.{Answer, gives, refuses}
 use Rattle.laws.specs.Halving.{bisecting}
 use Rattle.laws.proofs.Halving.{halving-plain, bisecting-within}
-use Rattle.power.specs.Pages.{Decoded}
 use Rattle.power.specs.Reading as Theory
 use Rattle.power.specs.Scan as Theory-scan
+use Rattle.words.specs.Words.{sameBytes}
 use Rattle.layout.specs.Layout.{validCapacity, pagesIn, pageAt}
 use Rattle.layout.proofs.Capacity.{valid}
-use Rattle.store.specs.Store.{onStore, readOf, faultAt}
+use Rattle.store.specs.Store.{readOf, faultAt}
 use Rattle.store.proofs.Checks.{on-lengths}
 use Rattle.blackbox.specs.Page.{blankPage, decoded}
 use Rattle.blackbox.specs.declared.PageMetadata.{PageMetadata}
@@ -27,9 +27,8 @@ use Rattle.records.specs.Pages.{pageIn, readPage, allBlank, blankAt, flightIn, 
 use Rattle.records.specs.Scan as Scan
 use Rattle.records.specs.declared.PageFlight.{PageFlight}
 use Rattle.records.specs.declared.Scan as Declared
-use Rattle.log_pages.specs.Store.{contentIn, content, pagesFrom, pagesOf}
-use Rattle.log_pages.proofs.Decide.{same-list}
-use Rattle.log_pages.proofs.Real.{real}
+use Rattle.log_pages.specs.Store.{contentIn, content, real, pagesFrom, pagesOf, asScan}
+use Rattle.log_pages.proofs.Real.{same-blank}
 
 -- ---- the pages of an image
 
@@ -64,16 +63,17 @@ unfolding allBlank
 bytes-blank zero = refl
 bytes-blank (suc n) = bytes-blank n
 
-pub told-blank : (p : List ℕ) → length p ≡ 256 → allBlank p ≡ Theory.isBlank real p
-told-blank p l = go (same-list p blankPage)
+-- as the theory tells it
+abbrev pub isBlankPage : List ℕ → Bool
+isBlankPage page = real .isBlank page
+
+pub told-blank : (p : List ℕ) → length p ≡ 256 → allBlank p ≡ isBlankPage p
+told-blank p l = go (allBlank p) (sameBytes p blankPage) refl refl
   where
-    go : (d : Dec (p ≡ blankPage)) → allBlank p ≡ elim d [ yes h ↦ true | no h ↦ false ]
-    go (yes h) = ap allBlank h ∙ bytes-blank 256
-    go (no h) = not-blank (allBlank p) refl
-      where
-        not-blank : (q : Bool) → allBlank p ≡ q → allBlank p ≡ false
-        not-blank true e = absurd (h (blank-bytes 256 p l e))
-        not-blank false e = e
+    go : (a b : Bool) → allBlank p ≡ a → sameBytes p blankPage ≡ b → allBlank p ≡ sameBytes p blankPage
+    go true b e q = e ∙ sym (same-blank p .1 (blank-bytes 256 p l e))
+    go false true e q = absurd (false≢true (sym e ∙ ap allBlank (same-blank p .0 q) ∙ bytes-blank 256))
+    go false false e q = e ∙ sym q
 
 -- ---- reading without faults
 
@@ -85,10 +85,6 @@ NoFaults faults = (i : ℕ) → getD faults i 0 ≡ 0
 abbrev pub asFlight : Option PageFlight → Option ℕ
 asFlight none = none
 asFlight (some f) = some (f .«flight_id»)
-
--- a scan's answer as the code has it
-abbrev pub asScan : Theory.ScanAnswer → Declared.Scan
-asScan s = Scan.scan (s .page) (s .flight) (s .writable)
 
 -- the verdict where page 0 says a flight
 abbrev chosen : Option PageFlight → Declared.Scan → Declared.Scan
@@ -156,17 +152,17 @@ module _ (image faults : List ℕ) (clear : NoFaults faults) where
     page-long : (i : ℕ) → i < n → length (pageIn image i) ≡ 256
     page-long i h = length-take-le 256 (drop (12288 + i * 256) image) (omega (arith, length-drop (12288 + i * 256) image))
 
-    blank-is : (i : ℕ) → i < n → blankAt image faults i ≡ gives (Theory.isBlank real (Theory.pageAt real (pagesOf n image) i))
+    blank-is : (i : ℕ) → i < n → blankAt image faults i ≡ gives (isBlankPage (Theory.pageAt real (pagesOf n image) i))
     unfolding blankAt
     blank-is i h =
         rw (read-well i)
-        (ap {B = Answer Bool} gives (told-blank (pageIn image i) (page-long i h) ∙ ap (Theory.isBlank real) (sym (page-at image n i h))))
+        (ap {B = Answer Bool} gives (told-blank (pageIn image i) (page-long i h) ∙ ap (isBlankPage) (sym (page-at image n i h))))
 
     used-is : Scan.usedPages n image faults ≡ gives (Theory-scan.usedPages real (pagesOf n image))
     unfolding Scan.usedPages
     used-is =
-        halving-plain n (blankAt image faults) (λ i. Theory.isBlank real (Theory.pageAt real (pagesOf n image) i)) blank-is
-        ∙ ap {B = Answer ℕ} (λ (k : ℕ). gives (bisecting (λ i. Theory.isBlank real (Theory.pageAt real (pagesOf n image) i)) k)) (sym (length-pages image 0 n))
+        halving-plain n (blankAt image faults) (λ i. isBlankPage (Theory.pageAt real (pagesOf n image) i)) blank-is
+        ∙ ap {B = Answer ℕ} (λ (k : ℕ). gives (bisecting (λ i. isBlankPage (Theory.pageAt real (pagesOf n image) i)) k)) (sym (length-pages image 0 n))
 
     -- the verdict, from what the first and the last used page say
     appending-is : (used : ℕ) (o : Option PageFlight) → asScan (Theory-scan.appending real (pagesOf n image) used (asFlight o)) ≡ Scan.appending n used o
@@ -201,7 +197,7 @@ module _ (image faults : List ℕ) (clear : NoFaults faults) where
         (verdict-is (Theory-scan.usedPages real (pagesOf n image)) within)
       where
         within : Theory-scan.usedPages real (pagesOf n image) ≤ n
-        within = omega (arith, length-pages image 0 n, bisecting-within (λ i. Theory.isBlank real (Theory.pageAt real (pagesOf n image) i)) (length (pagesOf n image)))
+        within = omega (arith, length-pages image 0 n, bisecting-within (λ i. isBlankPage (Theory.pageAt real (pagesOf n image) i)) (length (pagesOf n image)))
 
 -- THE TIE: "without faults" scan_log answers what the theory's scan does over the image's pages
 pub scan-is-theory : (c : ℕ) (image faults : List ℕ) → validCapacity c ≡ true → length image ≡ c → length faults ≡ c / 256 → NoFaults faults

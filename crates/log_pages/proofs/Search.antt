@@ -1,37 +1,28 @@
 -- Without faults, where every used page has a flight, find_flight answers what the theory's search does over the image's pages, for every
--- flight below the last number: the halving asks the same test at both ends. Assumes nothing.
-use Prim.Native.Nat.{ℕ, zero, suc, _+_, _-_, _*_, _/_, _≤_, _<_}
-use mathlib.Core.Path.{_≡_, refl, sym, ap, ap₂, _∙_}
-use mathlib.Core.Bool.{Bool, true, false, cond}
+-- flight: the halving asks the same test at both ends, and past the last number there is no page. Assumes nothing.
+use Prim.Native.Nat.{ℕ, suc, _/_, _≤_, _<_}
+use mathlib.Core.Path.{_≡_, refl, sym, ap, _∙_}
+use mathlib.Core.Bool.{Bool, true, false}
 use mathlib.Core.List.{List}
 use mathlib.Core.Option.{Option, none, some}
 use native.Mathlib.Decide.{decLt}
 use native.Mathlib.Numerals.{add-one}
 use native.Mathlib.Omega.{arith}
-use borrow.Author.Tests.{eq-eqb, ne-eqb, lt-ltb, le-ltb}
-use lib.Dec.{eqb, leb, ltb}
+use borrow.Author.Tests.{eq-eqb, ne-eqb, lt-leb, lt-ltb, le-ltb}
+use lib.Dec.{eqb, leb}
 use lib.ListN.{length}
-use Rattle.laws.specs.Refusals.{corrupt}
-use Rattle.laws.specs.Answers.{Answer, gives, refuses, then}
-use Rattle.laws.specs.Halving.{bisecting}
-use Rattle.laws.proofs.Halving.{halving-plain, bisecting-within}
+use Rattle.laws.specs.Answers.{Answer, gives}
+use Rattle.laws.specs.Halving.{Threshold}
+use Rattle.laws.proofs.Halving.{halving-plain, bisecting-within, bisecting-at}
 use Rattle.power.specs.Reading as Theory
 use Rattle.power.specs.Scan as Theory-scan
 use Rattle.layout.specs.Layout.{validCapacity, pagesIn}
 use Rattle.store.proofs.Checks.{on-lengths}
-use Rattle.records.specs.Pages.{pageFlight}
 use Rattle.records.specs.declared.PageFlight.{PageFlight}
-use Rattle.log_search.specs.Search.{orCorrupt, flightId, reaches, lowerBound, endOf, storedFlight, foundFrom, found, foundFlight}
-use Rattle.log_search.specs.declared.StoredFlight.{StoredFlight}
+use Rattle.log_search.specs.Search.{orCorrupt, flightId, reaches, lowerBound, endOf, foundFrom, found, foundFlight}
 use Rattle.log_search.proofs.Bounds.{reaches-is}
-use Rattle.log_pages.specs.Store.{pagesOf}
-use Rattle.log_pages.proofs.Real.{real}
+use Rattle.log_pages.specs.Store.{real, pagesOf, asFound}
 use Rattle.log_pages.proofs.Scan.{NoFaults, asFlight, flightInLog, flight-says, flight-is}
-
--- a span as the code has it
-abbrev pub asFound : ℕ → Option Theory.Span → Option StoredFlight
-asFound f none = none
-asFound f (some span) = some (record { «flight_id» = f; «start_page» = span .start; pages = span .pages })
 
 one-flight : (o : Option PageFlight) (g : ℕ) → asFlight o ≡ some g → orCorrupt o ≡ gives g
 one-flight none g e = absurd (let z : _≡_ {A = ℕ} 0 1 = cc in omega arith)
@@ -87,11 +78,36 @@ module _ (image faults : List ℕ) (clear : NoFaults faults) (n used : ℕ) (l :
     unfolding found
     pages-searched = rw (lower-is f) (from-is (decLt (point f) used))
 
+  -- a flight past all of them is not there
+  pub past-searched : (f : ℕ) → ((i : ℕ) → i < used → Theory-scan.flightNumber real log i < f)
+      → found flightAt used f ≡ gives (asFound f (Theory-scan.find real log used f))
+  unfolding found foundFrom
+  past-searched f below =
+      let z : point f ≡ used = bisecting-at (λ i. leb f (Theory-scan.flightNumber real log i)) used used past in
+      rw (lower-is f, eq-eqb (point f) used z, le-ltb (point f) used (omega arith)) refl
+    where
+      past : Threshold (λ i. leb f (Theory-scan.flightNumber real log i)) used used
+      past =
+          record {
+            within = omega arith;
+            fails = λ i h. lt-leb f (Theory-scan.flightNumber real log i) (below i h);
+            passes = λ i a b. absurd (omega arith);
+          }
+
+  pub all-searched : ((i : ℕ) → i < used → Theory-scan.flightNumber real log i < 4294967295) → (f : ℕ)
+      → found flightAt used f ≡ gives (asFound f (Theory-scan.find real log used f))
+  all-searched below f = go (decLt f 4294967295)
+    where
+      go : Dec (f < 4294967295) → found flightAt used f ≡ gives (asFound f (Theory-scan.find real log used f))
+      go (yes h) = pages-searched f h
+      go (no h) = past-searched f (λ i l. omega (arith, below i l))
+
 -- THE TIE: "without faults" find_flight answers what the theory's search does over the image's pages
 pub find-is-theory : (c : ℕ) (image faults : List ℕ) → validCapacity c ≡ true → length image ≡ c → length faults ≡ c / 256 → NoFaults faults
-    → (used : ℕ) → used ≤ pagesIn c → Theory-scan.FlightsKnown real (pagesOf (pagesIn c) image) used → (f : ℕ) → f < 4294967295
+    → (used : ℕ) → used ≤ pagesIn c → Theory-scan.FlightsKnown real (pagesOf (pagesIn c) image) used
+    → ((i : ℕ) → i < used → Theory-scan.flightNumber real (pagesOf (pagesIn c) image) i < 4294967295) → (f : ℕ)
     → foundFlight c image faults used f ≡ gives (asFound f (Theory-scan.find real (pagesOf (pagesIn c) image) used f))
 unfolding foundFlight
-find-is-theory c image faults v k q clear used l each f h =
+find-is-theory c image faults v k q clear used l each below f =
     on-lengths c (length image) (length faults) (c / 256) (found (flightId (pagesIn c) image faults) used f) v k q
-    ∙ pages-searched image faults clear (pagesIn c) used l each f h
+    ∙ all-searched image faults clear (pagesIn c) used l each below f

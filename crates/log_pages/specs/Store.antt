@@ -1,18 +1,26 @@
--- What a page of 256 bytes is to the theory of demand 3. Document 01, "Bytes on flash" and "Writer and store".
-use Prim.Native.Nat.{ℕ, zero, suc, _+_, _%_, _^_, _≤_}
-use mathlib.Core.Bool.{Bool, true, false, not}
+-- The page of 256 bytes as a page store of the theory of demand 3: what "five", "decodes" and "programmed" mean there, all by the codec's and the
+-- store's own definitions; and the answers of scan and search as the code has them. That it meets the laws of a page store is proofs/Real.
+-- Document 01, "Bytes on flash" and "Writer and store".
+use Prim.Native.Nat.{ℕ, zero, suc, _+_, _-_, _%_, _^_}
+use mathlib.Core.Bool.{Bool, true}
 use mathlib.Core.List.{List, [], _∷_}
 use mathlib.Core.Option.{Option, none, some}
-use lib.Dec.{eqb, ltb}
-use lib.ListN.{length}
+use lib.Dec.{eqb}
 use Rattle.laws.specs.Answers.{Answer, gives, refuses}
-use Rattle.power.specs.Pages.{Decoded}
+use Rattle.laws.specs.Bits.{bit}
+use Rattle.power.specs.Pages.{Decoded, PageStore}
+use Rattle.power.specs.Reading.{ScanAnswer, Span}
+use Rattle.words.specs.Words.{sameBytes}
+use Rattle.store.specs.Store.{programmedBytes}
 use Rattle.blackbox.specs.Record.{Fit}
-use Rattle.blackbox.specs.Page.{decoded, recordsIn}
-use Rattle.blackbox.specs.Laws.{EachFit}
+use Rattle.blackbox.specs.Page.{blankPage, encodedPage, decoded, recordsIn}
 use Rattle.blackbox.specs.declared.FlightRecord.{FlightRecord}
 use Rattle.blackbox.specs.declared.PageMetadata.{PageMetadata}
+use Rattle.assembler.specs.Assembler.{marked}
 use Rattle.records.specs.Pages.{pageIn}
+use Rattle.records.specs.Scan as Scan
+use Rattle.records.specs.declared.Scan as Declared
+use Rattle.log_search.specs.declared.StoredFlight.{StoredFlight}
 
 -- what a page says: its flight, its sequence and as many records as it counts
 abbrev pub contentIn : List ℕ → Answer PageMetadata → Option (Decoded FlightRecord)
@@ -28,18 +36,34 @@ content page = contentIn page (decoded page)
 unfoldable pub isArmed : FlightRecord → Bool
 isArmed r = eqb (r .flags % 2) 1
 
--- the rows that a page can hold: at most five records whose fields fit
-pub record Holds (rows : List FlightRecord) : Type 0 where
-  pub few : length rows ≤ 5
-  pub fit : EachFit rows
+-- "boot-session flag (bit 2)"
+unfoldable pub hasBootBit : FlightRecord → Bool
+hasBootBit r = eqb (bit 2 (r .flags)) 1
 
--- five rows fill a page
-abbrev pub isFull : List FlightRecord → Bool
-isFull rows = not (ltb (length rows) 5)
-
--- "all but at most the last five": what a power-on may lack at its end
-abbrev pub AtMostFive : List (ℕ × FlightRecord) → Type 0
-AtMostFive rest = length rest ≤ 5
+-- The 256-byte page, "five rows" to each: one edition. A keep mask is a list of bytes, and a byte past its end keeps nothing, so the empty one is that of
+-- a program that succeeds. "page sequence and next flight wrap too" at 2^32, which is past the limit.
+abbrev pub real : PageStore (List ℕ) FlightRecord (List ℕ)
+real =
+    record {
+      blank = blankPage;
+      isBlank = λ page. sameBytes page blankPage;
+      decode = content;
+      encode = encodedPage;
+      programmed = programmedBytes;
+      clean = [];
+      limit = 2 ^ 32 - 1;
+      flightAfter = Scan.nextFlight;
+      sequenceAfter = λ s. (s + 1) % 2 ^ 32;
+      armed = isArmed;
+      marked = marked true;
+      hasMark = hasBootBit;
+      Fits = Fit;
+      Edition = Unit {0};
+      freshEdition = tt;
+      edition = λ r. tt;
+      joins = λ e r. true;
+      perPage = λ e. 5;
+    }
 
 -- the pages of an image's log, in order
 unfoldable pub pagesFrom : List ℕ → ℕ → ℕ → List (List ℕ)
@@ -48,3 +72,12 @@ pagesFrom image i (suc n) = pageIn image i ∷ pagesFrom image (suc i) n
 
 abbrev pub pagesOf : ℕ → List ℕ → List (List ℕ)
 pagesOf pageCount image = pagesFrom image 0 pageCount
+
+-- a scan's answer as the code has it
+abbrev pub asScan : ScanAnswer → Declared.Scan
+asScan s = Scan.scan (s .page) (s .flight) (s .writable)
+
+-- a span as the code has it
+abbrev pub asFound : ℕ → Option Span → Option StoredFlight
+asFound flight none = none
+asFound flight (some span) = some (record { «flight_id» = flight; «start_page» = span .start; pages = span .pages })

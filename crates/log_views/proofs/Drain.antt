@@ -1,9 +1,9 @@
 -- A drain is the theory's drain on the view. Assumes nothing.
 use Prim.Native.Nat.{ℕ, zero, suc, _+_, _*_, _≤_}
-use mathlib.Core.Path.{_≡_, refl, sym, ap, ap₂, _∙_, subst}
+use mathlib.Core.Path.{_≡_, refl, sym, ap, ap₂, _∙_}
 use mathlib.Core.Bool.{Bool, true, false, cond}
-use mathlib.Core.List.{List, [], _∷_}
-use mathlib.Core.Option.{Option, none, some}
+use mathlib.Core.List.{List}
+use mathlib.Core.Option.{Option}
 use native.Mathlib.Omega.{arith}
 use borrow.Author.Tests.{eq-eqb, ne-eqb}
 use lib.Dec.{eqb}
@@ -13,24 +13,21 @@ use Rattle.power.specs.Writer as Model
 use Rattle.power.specs.Calls as Theory
 use Rattle.layout.specs.Layout.{logStart}
 use Rattle.blackbox.specs.declared.FlightRecord.{FlightRecord}
-use Rattle.queue.specs.Queue.{recordsFrom, recordsHeld, oldest, withoutOldest, dequeued}
-use Rattle.queue.specs.declared.RecordQueue.{RecordQueue}
+use Rattle.queue.specs.Queue.{recordsFrom, recordsHeld}
 use Rattle.queue.specs.declared.Dequeued.{Dequeued}
 use Rattle.queue.proofs.Laws.{held-first, none-leaves, one-leaves}
 use Rattle.assembler.specs.Assembler.{stopped}
-use Rattle.log_state.specs.Writer.{withAssembler, ended, stoppedInto, logged}
+use Rattle.log_state.specs.Writer.{withAssembler, ended, logged}
 use Rattle.log_state.specs.WellFormed.{SoundWriter}
-use Rattle.log_state.specs.declared.LogWriter.{LogWriter}
 use Rattle.log_state.specs.declared.Logged.{Logged}
-use Rattle.log_writer.specs.Pass.{pass, counted, turn, turnImage, turns, turnsImage, droppingIt, dropping, onEmptyQueue, drainPass, drainImage}
+use Rattle.log_writer.specs.Pass.{counted, turn, turnImage, turns, turnsImage, droppingIt, dropping, onEmptyQueue, drainPass, drainImage}
 use Rattle.log_writer.specs.WellFormed.{SoundPass}
 use Rattle.log_writer.specs.declared.Pass.{Pass}
 use Rattle.log_writer.specs.declared.NextProgram.{NextProgram}
 use Rattle.log_writer.proofs.Turns.{still, still-image, another, another-image}
 use Rattle.log_writer.proofs.Keeps.{turn-sound}
 use Rattle.log_laws.proofs.OnlyLog.{turn-only}
-use Rattle.log_pages.specs.Store.{pagesOf}
-use Rattle.log_pages.proofs.Real.{real}
+use Rattle.log_pages.specs.Store.{real, pagesOf}
 use Rattle.log_views.specs.Views.{asWriter, asNext, asPass}
 use Rattle.log_views.proofs.Steps.{stopped-is}
 use Rattle.log_views.proofs.Turns.{viewedAs, Is, stepped, turn-is}

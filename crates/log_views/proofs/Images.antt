@@ -1,13 +1,13 @@
 -- A program of one page of the log, on the image, is that page programmed in the list of pages. Assumes nothing.
 use Prim.Native.Nat.{ℕ, zero, suc, _+_, _*_, _≤_, _<_}
 use mathlib.Core.Path.{_≡_, refl, sym, ap, ap₂, _∙_}
-use mathlib.Core.List.{List, [], _∷_}
-use native.Mathlib.Nat.{add-zero, add-suc, suc-add}
+use mathlib.Core.List.{List, _∷_}
+use native.Mathlib.Nat.{add-zero}
 use native.Mathlib.Decide.{decLt}
 use native.Mathlib.Omega.{arith}
 use lib.ListN.{length, getD, set}
 use Rattle.layout.specs.Layout.{logStart, pageAt}
-use Rattle.store.specs.Store.{part, programmed, programmedBytes}
+use Rattle.store.specs.Store.{programmed, programmedBytes}
 use Rattle.store.specs.Laws.{OnlyAt}
 use Rattle.store.proofs.Laws.{only-its-bytes, its-bytes}
 use Rattle.blackbox.specs.Page.{blankPage}

@@ -1,18 +1,17 @@
 -- Each step of the writer is the theory's step on the view: a page is fetched, a record is logged, a flight ends. Assumes nothing.
 use Prim.Native.Nat.{ℕ, zero, suc, _+_, _<_}
-use mathlib.Core.Path.{_≡_, refl, sym, ap, ap₂, _∙_}
+use mathlib.Core.Path.{_≡_, refl, sym, ap, _∙_}
 use mathlib.Core.Bool.{Bool, true, false, cond, not}
 use mathlib.Core.List.{List, [], _∷_, _++_}
-use mathlib.Core.Option.{Option, none, some}
 use native.Mathlib.Omega.{arith}
-use borrow.Author.Tests.{ne-eqb, eq-eqb}
+use borrow.Author.Tests.{ne-eqb}
 use lib.Dec.{eqb, ltb}
 use lib.ListN.{length, take, length-append}
 use lib.Seq.{length-take-le}
 use Rattle.laws.proofs.Choice.{cond-true, cond-false}
+use Rattle.power.specs.Pages.{full}
 use Rattle.power.specs.Writer as Model
 use Rattle.power.specs.Calls as Theory
-use Rattle.blackbox.specs.Page.{encodedPage}
 use Rattle.blackbox.specs.declared.FlightRecord.{FlightRecord}
 use Rattle.records.specs.Scan.{nextFlight}
 use Rattle.assembler.specs.Assembler.{pageAssembler, started, answered, finished, marked, laid, pushed, unrecorded, stopped, withoutReady, taken}
@@ -22,13 +21,12 @@ use Rattle.assembler.specs.WellFormed.{SoundAssembler}
 use Rattle.assembler.specs.declared.PageAssembler.{PageAssembler}
 use Rattle.assembler.specs.declared.AssembleAnswer.{AssembleAnswer}
 use Rattle.assembler.proofs.Laws.{push-taken, push-appends, stop-taken, start-keeps}
-use Rattle.log_state.specs.Writer.{logWriter, fresh, recovered, withAssembler, fetched, fetchedIfWritable, written, begun, beginning, added, ended, logging}
+use Rattle.log_state.specs.Writer.{logWriter, withAssembler, fetched, fetchedIfWritable, begun, beginning, added, ended, logging}
 use Rattle.log_state.specs.WellFormed.{SoundWriter}
 use Rattle.log_state.specs.declared.LogWriter.{LogWriter}
 use Rattle.log_state.specs.declared.Logged.{Logged}
-use Rattle.log_pages.specs.Store.{isFull}
-use Rattle.log_pages.proofs.Real.{real}
-use Rattle.log_views.specs.Views.{ifThere, asAssembler, asWriter}
+use Rattle.log_pages.specs.Store.{real}
+use Rattle.log_views.specs.Views.{asAssembler, asWriter}
 
 -- ---- a page is fetched
 
@@ -86,7 +84,7 @@ module _ (a : PageAssembler) (r : FlightRecord) (s : SoundAssembler a) (on : a .
   filled-is true e = laid-is a m s
   filled-is false e = finished-is (laid a m) ∙ ap (Model.finished real) (laid-is a m s)
 
-  full-is : isFull (usedRows a ++ m ∷ []) ≡ not (ltb (a .«record_count» + 1) 5)
+  full-is : full real tt (usedRows a ++ m ∷ []) ≡ not (ltb (a .«record_count» + 1) 5)
   full-is = ap (λ (n : ℕ). not (ltb n 5)) (rows-many a m s)
 
   pub pushed-is : asAssembler (pushed a r .assembler) ≡ Model.pushed real (Model.stored real (asAssembler a) r) (asAssembler a)

@@ -3,19 +3,18 @@
 use Prim.Native.Nat.{ℕ, zero, suc, _+_, _*_, _≤_, _<_}
 use mathlib.Core.Path.{_≡_, refl, sym, ap, ap₂, _∙_, subst}
 use mathlib.Core.Bool.{Bool, true, false, cond}
-use mathlib.Core.List.{List, [], _∷_, _++_}
-use mathlib.Core.Option.{Option, none, some}
+use mathlib.Core.List.{List, [], _++_}
+use mathlib.Core.Option.{Option, some}
 use native.Mathlib.Numerals.{add-one}
 use native.Mathlib.Omega.{arith}
 use borrow.Author.Tests.{lt-ltb, le-ltb, ltb-true, ltb-false}
 use lib.Dec.{ltb}
 use lib.ListN.{length}
-use Rattle.laws.proofs.Choice.{cond-true, cond-false}
 use Rattle.power.specs.Writer as Model
 use Rattle.power.specs.Calls as Theory
-use Rattle.layout.specs.Layout.{logStart, pageAt}
+use Rattle.layout.specs.Layout.{logStart}
 use Rattle.blackbox.specs.declared.FlightRecord.{FlightRecord}
-use Rattle.queue.specs.Queue.{empty, recordsFrom, recordsHeld, dequeue, oldest, withoutOldest, dequeued}
+use Rattle.queue.specs.Queue.{empty, recordsFrom, recordsHeld, oldest, withoutOldest}
 use Rattle.queue.specs.declared.RecordQueue.{RecordQueue}
 use Rattle.queue.specs.declared.Dequeued.{Dequeued}
 use Rattle.queue.proofs.Laws.{held-first, none-leaves, one-leaves}
@@ -27,14 +26,14 @@ use Rattle.log_state.specs.WellFormed.{SoundWriter}
 use Rattle.log_state.proofs.Sound.{fetched-sound}
 use Rattle.log_state.specs.declared.LogWriter.{LogWriter}
 use Rattle.log_state.specs.declared.Logged.{Logged}
-use Rattle.log_writer.specs.Pass.{pass, withWriter, halted, put, severed, failing, busyNow, keptBy, logs, counted, takingIn, takingRecord, programming, fetchedPass}
-use Rattle.log_writer.specs.Pass.{byPage, turn, programmedPage, turnImage, turns, turnsImage}
+use Rattle.log_writer.specs.Pass.{pass, withWriter, halted, put, severed, busyNow, keptBy, logs, counted, takingIn, takingRecord, programming}
+use Rattle.log_writer.specs.Pass.{turn, programmedPage, turnImage}
 use Rattle.log_writer.specs.WellFormed.{SoundPass}
 use Rattle.log_writer.specs.declared.Pass.{Pass}
 use Rattle.log_writer.specs.declared.NextProgram.{NextProgram}
 use Rattle.log_writer.specs.declared.NextProgram.the-variants.{Busy, Fault, Cut}
 use Rattle.log_pages.specs.Store.{isArmed, pagesOf}
-use Rattle.log_pages.proofs.Real.{real}
+use Rattle.log_pages.specs.Store.{real}
 use Rattle.log_pages.proofs.Scan.{length-pages}
 use Rattle.log_views.specs.Views.{ifThere, asWriter, asNext, asPass}
 use Rattle.log_views.proofs.Images.{pages-programmed}

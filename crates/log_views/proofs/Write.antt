@@ -1,9 +1,9 @@
 -- write_pending is the theory's writePending on the view. Assumes nothing.
 use Prim.Native.Nat.{ℕ, zero, suc, _+_, _*_, _≤_, _<_}
-use mathlib.Core.Path.{_≡_, refl, sym, ap, ap₂, _∙_}
+use mathlib.Core.Path.{_≡_, refl, sym, ap, _∙_}
 use mathlib.Core.Bool.{Bool, true, false, cond}
 use mathlib.Core.List.{List, []}
-use mathlib.Core.Option.{Option, none, some}
+use mathlib.Core.Option.{none}
 use native.Mathlib.Numerals.{add-one}
 use borrow.Author.Tests.{lt-ltb, le-ltb, ltb-true, ltb-false}
 use lib.Dec.{ltb}
@@ -12,7 +12,6 @@ use Rattle.power.specs.Writer as Model
 use Rattle.power.specs.Calls as Theory
 use Rattle.layout.specs.Layout.{logStart}
 use Rattle.store.specs.Store.{mask}
-use Rattle.blackbox.specs.declared.FlightRecord.{FlightRecord}
 use Rattle.queue.specs.Queue.{empty, recordsHeld}
 use Rattle.queue.specs.declared.RecordQueue.{RecordQueue}
 use Rattle.assembler.specs.Assembler as Assembler
@@ -27,8 +26,7 @@ use Rattle.log_writer.specs.declared.WriteAnswer.{WriteAnswer}
 use Rattle.log_writer.specs.declared.NextProgram.{NextProgram}
 use Rattle.log_writer.specs.declared.NextProgram.the-variants.{Busy, Fault, Cut}
 use Rattle.log_writer.specs.declared.PageWrite.the-variants.{Nothing, RegionFull}
-use Rattle.log_pages.specs.Store.{pagesOf}
-use Rattle.log_pages.proofs.Real.{real}
+use Rattle.log_pages.specs.Store.{real, pagesOf}
 use Rattle.log_pages.proofs.Scan.{length-pages}
 use Rattle.log_views.specs.Views.{ifThere, asWriter, asNext, asPass}
 use Rattle.log_views.proofs.Images.{pages-programmed}

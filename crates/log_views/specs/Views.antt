@@ -14,8 +14,7 @@ use Rattle.log_state.specs.declared.LogWriter.{LogWriter}
 use Rattle.log_writer.specs.declared.Pass.{Pass}
 use Rattle.log_writer.specs.declared.NextProgram.{NextProgram}
 use Rattle.log_writer.specs.declared.NextProgram.the-variants.{Busy, Fault, Cut}
-use Rattle.log_pages.specs.Store.{pagesOf}
-use Rattle.log_pages.proofs.Real.{real}
+use Rattle.log_pages.specs.Store.{real, pagesOf}
 
 -- a value and its flag
 abbrev pub ifThere : {A : Type 0} → Bool → A → Option A

@@ -9,6 +9,7 @@ use native.Mathlib.Decide.{ℕ-discrete}
 use lib.ListN.{length, set, length-append, length-set}
 use lib.Seq.{set-at, getD-at, getD-set-same, getD-set-other}
 use Rattle.power.specs.Pages.{Decoded, PageStore}
+use Rattle.power.specs.Lawful.{Lawful}
 use Rattle.power.specs.Reading.{Whole, pageAt, recordsOf, recordsOn}
 use Rattle.power.specs.Claims.{OnlyAdds}
 use Rattle.power.specs.Calls.{programmedCell, programmedAt}
@@ -16,7 +17,7 @@ use Rattle.power.specs.Life.{Undecoded}
 use Rattle.power.proofs.Used.{none-some, records-append, records-blanks}
 use Rattle.power.proofs.Invariant.{Tail}
 
-module _ {Page Record Mask : Type 0} (S : PageStore Page Record Mask) where
+module _ {Page Record Mask : Type 0} (S : PageStore Page Record Mask) (L : Lawful S) where
   pub adds-none : (l : List Page) → OnlyAdds S l l
   adds-none l = record { as-long = refl; stays = λ i c d. refl; added = ([], sym (append-nil (recordsOn S l))) }
 
@@ -47,13 +48,13 @@ module _ {Page Record Mask : Type 0} (S : PageStore Page Record Mask) where
     next-inside : nx < length l
     next-inside = omega (arith, ap length e, length-append base (cell ∷ rest))
 
-    pub program-adds : Tail S page (cell ∷ rest) → OnlyAdds S l (programmedAt S l nx page keep)
+    pub program-adds : Tail S L page (cell ∷ rest) → OnlyAdds S l (programmedAt S l nx page keep)
     program-adds tail = record { as-long = length-set l nx (programmedCell S l nx page keep); stays = stays; added = added (S .decode cell) refl }
       where
         -- the cell decodes only if it is the page itself
         same : (c : Decoded Record) → Whole S cell c → Undecoded S (some (page, cell)) → S .programmed cell page keep ≡ cell
         same c d (inl y) = absurd (none-some y d)
-        same c d (inr y) = rw y (S .program-self page keep)
+        same c d (inr y) = rw y (L .program-self page keep)
 
         stays : (i : ℕ) (c : Decoded Record) → Whole S (pageAt S l i) c → pageAt S (programmedAt S l nx page keep) i ≡ pageAt S l i
         stays i c d = go (ℕ-discrete i nx)
@@ -66,16 +67,16 @@ module _ {Page Record Mask : Type 0} (S : PageStore Page Record Mask) where
             go (no q) = getD-set-other l nx i (programmedCell S l nx page keep) (S .blank) q
 
         behind : recordsOn S rest ≡ []
-        behind = records-blanks S rest (tail .2)
+        behind = records-blanks S L rest (tail .2)
 
         added : (d : Option (Decoded Record)) → S .decode cell ≡ d
             → (more : List (ℕ × Record)) × (recordsOn S (programmedAt S l nx page keep) ≡ recordsOn S l ++ more)
         added none d = (
           recordsOf S (S .decode (S .programmed cell page keep)),
-          rw program-at (records-append S base (S .programmed cell page keep ∷ rest) ∙ rw (behind, append-nil) (sym unread)),
+          rw program-at (records-append S L base (S .programmed cell page keep ∷ rest) ∙ rw (behind, append-nil) (sym unread)),
         )
           where
             unread : recordsOn S l ++ recordsOf S (S .decode (S .programmed cell page keep)) ≡ recordsOn S base ++ recordsOf S
                 (S .decode (S .programmed cell page keep))
-            unread = rw (e, records-append S base (cell ∷ rest), d, behind, append-nil (recordsOn S base)) refl
+            unread = rw (e, records-append S L base (cell ∷ rest), d, behind, append-nil (recordsOn S base)) refl
         added (some c) d = ([], rw (program-at, same c d (tail .1), ← e) (sym (append-nil (recordsOn S l))))

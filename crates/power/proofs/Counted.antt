@@ -35,7 +35,7 @@ module _ {Page Record Mask : Type 0} (S : PageStore Page Record Mask) where
   counts-halt : (p q : Pass S) → Halts S (p .succeed) p q → Counts p q
   counts-halt p q f = record { alive = λ h. omega (arith, (f .alive h) .1, f .written); gone = λ h. go (f .gone h) }
     where
-      go : (p .powerGone ≡ true) ⊎ ((p .succeed ≡ 0) × (q .queue ≡ [])) → (p .powerGone ≡ true) ⊎ (q .pagesWritten ≡ p .succeed + p .pagesWritten)
+      go : (p .powerGone ≡ true) ⊎ ((p .succeed ≡ 0) × (q .queue ≡ []) × (q .writer .writable ≡ false)) → (p .powerGone ≡ true) ⊎ (q .pagesWritten ≡ p .succeed + p .pagesWritten)
       go (inl h) = inl h
       go (inr h) = inr (omega (arith, h .0, f .written))
 
@@ -89,7 +89,7 @@ module _ {Page Record Mask : Type 0} (S : PageStore Page Record Mask) where
   counts-wrote g z p e (goes-on q) f = record { alive = λ h. f .counted; gone = λ h. inl (sym (f .powerGone) ∙ h) }
   counts-wrote g z p e (ends q) f = record { alive = λ h. omega (arith, (f .alive h) .1, f .written); gone = λ h. go (f .gone h) }
     where
-      go : (p .powerGone ≡ true) ⊎ ((unasked S g z ≡ 0) × (q .queue ≡ [])) → (p .powerGone ≡ true) ⊎ (q .pagesWritten ≡ p .succeed + p .pagesWritten)
+      go : (p .powerGone ≡ true) ⊎ ((unasked S g z ≡ 0) × (q .queue ≡ []) × (q .writer .writable ≡ false)) → (p .powerGone ≡ true) ⊎ (q .pagesWritten ≡ p .succeed + p .pagesWritten)
       go (inl h) = inl h
       go (inr h) = inr (omega (arith, unasked-none g z (h .0), e, f .written))
 

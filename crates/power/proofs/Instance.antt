@@ -9,6 +9,7 @@ use Rattle.power.specs.Life.{unpowered, AllAssumed}
 use Rattle.power.specs.Theorem.{Holds, erased}
 use Rattle.power.specs.Small.{small}
 use Rattle.power.specs.Examples.{after, twoTorn}
+use Rattle.power.proofs.Small.{small-lawful}
 use Rattle.power.proofs.Theorem.{from-erased}
 
 two-torn-assumed : AllAssumed small twoTorn (unpowered small (erased small 4))
@@ -16,4 +17,4 @@ unfolding twoTorn bisect bisecting
 two-torn-assumed = (tt, (tt, (tt, (tt, (tt, (inl refl, (tt, (tt, (tt, (inl refl, (tt, (tt, (tt, (tt, (tt, (tt, tt))))))))))))))))
 
 two-torn-holds : Holds small [] (after twoTorn)
-two-torn-holds = from-erased small 4 (omega arith) (omega arith) twoTorn two-torn-assumed
+two-torn-holds = from-erased small small-lawful 4 (omega arith) (omega arith) twoTorn two-torn-assumed

@@ -11,15 +11,17 @@ use mathlib.Core.List.{List, [], _∷_, _++_, append-assoc, append-nil}
 use native.Mathlib.Omega.{arith}
 use lib.ListN.{length, length-append}
 use lib.Seq.{append-snoc}
-use Rattle.power.specs.Pages.{Decoded, PageStore, inFlight}
+use Rattle.power.specs.Pages.{Decoded, PageStore, inFlight, Packs, full}
+use Rattle.power.specs.Lawful.{Lawful}
 use Rattle.power.specs.Reading.{Blanks, Whole, Torn, recordsOn}
 use Rattle.power.specs.Grammar.{Ending, unused, ended, frayed, foreign, tornMore, newest, Sound, FurtherPage, NextPage, LooseRule}
 use Rattle.power.specs.Grammar.{StrictRule, Follows, whole-page, torn-page}
 use Rattle.power.specs.Claims.{Kept}
 use Rattle.power.specs.Life.{Undecoded}
-use Rattle.power.proofs.Used.{length-snoc, records-append}
+use Rattle.power.proofs.Used.{length-snoc, records-append, blank?}
+use Rattle.power.proofs.Packing.{Short, short-none, short-page}
 
-module _ {Page Record Mask : Type 0} (S : PageStore Page Record Mask) where
+module _ {Page Record Mask : Type 0} (S : PageStore Page Record Mask) (L : Lawful S) where
   -- what the writer is about: nothing, since it is not writable; it waits for a flight; it fills a page (flight, sequence, edition, rows);
   -- it holds a page that is to be written (flight, next sequence, edition, whether the flight is still recorded)
   pub data Phase : Type 0 where
@@ -35,7 +37,7 @@ module _ {Page Record Mask : Type 0} (S : PageStore Page Record Mask) where
 
   pub tail-of-blanks : (page : Page) (l : List Page) → S .programmed (S .blank) page (S .clean) ≡ page → Blanks S l → Tail page l
   tail-of-blanks page [] e b = tt
-  tail-of-blanks page (c ∷ r) e b = (rw (b .0) e, inl (rw (b .0) (S .decode-blank)), b .1)
+  tail-of-blanks page (c ∷ r) e b = (rw (b .0) e, inl (rw (b .0) (L .decode-blank)), b .1)
 
   -- what holds in each phase: of the used pages and their ending, the pages behind, the next page and flight, and what is only in memory
   pub record Idle (st : Ending Record) (base more : List Page) (nx nf : ℕ) (mem : List (ℕ × Record)) : Type 0 where
@@ -51,8 +53,8 @@ module _ {Page Record Mask : Type 0} (S : PageStore Page Record Mask) where
     pub here : nx ≡ length base
     pub place : NextPage S st e f s
     pub next-flight : nf ≡ suc f
-    pub packs : S .Packs e rows
-    pub unfilled : S .full rows ≡ false
+    pub packs : Packs S e rows
+    pub unfilled : full S e rows ≡ false
     pub memory : mem ≡ inFlight f rows
     pub small : f < S .limit
     pub few : s ≤ length base
@@ -67,9 +69,9 @@ module _ {Page Record Mask : Type 0} (S : PageStore Page Record Mask) where
     pub place : NextPage S st e f number
     pub next-flight : nf ≡ suc f
     pub next-sequence : sq ≡ suc number
-    pub packs : S .Packs e rows
+    pub packs : Packs S e rows
     pub some-rows : ¬ (rows ≡ [])
-    pub filled : recording ≡ true → S .full rows ≡ true
+    pub filled : recording ≡ true → full S e rows ≡ true
     pub memory : mem ≡ inFlight f rows
     pub small : f < S .limit
     pub few : number ≤ length base
@@ -79,7 +81,7 @@ module _ {Page Record Mask : Type 0} (S : PageStore Page Record Mask) where
   Begun f s e rows st = FurtherPage S st e f s ⊎ ¬ (rows ≡ [])
 
   abbrev pub Stands : Phase → Ending Record → List Page → List Page → ℕ → ℕ → List (ℕ × Record) → Type 0
-  Stands off st base more nx nf mem = Blanks S more × S .Short mem
+  Stands off st base more nx nf mem = Blanks S more × Short S L mem
   Stands idle st base more nx nf mem = Idle st base more nx nf mem
   Stands (filling f s e rows) st base more nx nf mem = Filling f s e rows st base more nx nf mem × Begun f s e rows st
   Stands (holding f sq e recording page) st base more nx nf mem = Holding f sq e recording page st base more nx nf mem
@@ -181,7 +183,7 @@ module _ {Page Record Mask : Type 0} (S : PageStore Page Record Mask) where
             split = e ∙ sym (append-snoc (i .base) page m);
             before = i .before;
             on-flash =
-                records-append S (i .base) (page ∷ [])
+                records-append S L (i .base) (page ∷ [])
                 ∙ rw (d, i .on-flash, em, append-nil) (append-assoc (i .old) (i .kept) (inFlight (c .flight) (c .rows)));
             logged = i .logged ∙ sym (append-nil (i .kept ++ i .mem));
             risen = omega (arith, i .risen, next-newest (i .ending) (strict .edition) (c .flight) (c .sequence) (strict .next), length-snoc (i .base) page);
@@ -192,7 +194,7 @@ module _ {Page Record Mask : Type 0} (S : PageStore Page Record Mask) where
           }
 
       -- the page behind the used ones is torn, and counts as used
-      pub spoilt : {cell : Page} {m : List Page} → i .more ≡ cell ∷ m → Sound (i .ending) → Torn S cell → Blanks S m → S .Short (i .mem)
+      pub spoilt : {cell : Page} {m : List Page} → i .more ≡ cell ∷ m → Sound (i .ending) → Torn S cell → Blanks S m → Short S L (i .mem)
           → Inv l off nx nf past now
       spoilt {cell} {m} e a t bs h =
           record {
@@ -205,7 +207,7 @@ module _ {Page Record Mask : Type 0} (S : PageStore Page Record Mask) where
             follows = torn-page (i .follows) a t;
             split = i .split ∙ rw e (sym (append-snoc (i .base) cell m));
             before = i .before;
-            on-flash = records-append S (i .base) (cell ∷ []) ∙ rw (t .0, i .on-flash) (append-nil (i .old ++ i .kept));
+            on-flash = records-append S L (i .base) (cell ∷ []) ∙ rw (t .0, i .on-flash) (append-nil (i .old ++ i .kept));
             logged = i .logged;
             risen = omega (arith, i .risen, newest-torn (i .ending), length-snoc (i .base) cell);
             newest-small = omega (arith, i .newest-small, newest-torn (i .ending));
@@ -223,34 +225,34 @@ module _ {Page Record Mask : Type 0} (S : PageStore Page Record Mask) where
       pub held-whole : Whole S page heldContent
       held-whole =
           rw (i .stands .encoded)
-          (S .decode-encode e f (i .stands .number) (i .stands .rows) (i .stands .small) (omega (arith, i .stands .few, base-long i))
+          (L .decode-encode e f (i .stands .number) (i .stands .rows) (i .stands .small) (omega (arith, i .stands .few, base-long i))
           (i .stands .packs))
 
       pub held-strict : StrictRule S (i .ending) page heldContent
       held-strict = record { encoded = i .stands .encoded; some-rows = i .stands .some-rows; edition = e; packs = i .stands .packs; next = i .stands .place }
 
       settle-held : (m : List Page) → i .more ≡ m → Tail page m → Inv l off nx nf past now
-      settle-held [] q t = turned i (i .mem) (i .logged) (rw q tt, rw (i .stands .memory) (S .short-page e f (i .stands .rows) (i .stands .packs)))
+      settle-held [] q t = turned i (i .mem) (i .logged) (rw q tt, rw (i .stands .memory) (short-page S L e f (i .stands .rows) (i .stands .packs)))
       settle-held (cell ∷ m) q t = go (t .1)
         where
-          short : S .Short (i .mem)
-          short = rw (i .stands .memory) (S .short-page e f (i .stands .rows) (i .stands .packs))
+          short : Short S L (i .mem)
+          short = rw (i .stands .memory) (short-page S L e f (i .stands .rows) (i .stands .packs))
 
           dark : Dec (cell ≡ S .blank) → S .decode cell ≡ none → Inv l off nx nf past now
           dark (yes b) d = turned i (i .mem) (i .logged) (rw q (b, t .2), short)
           dark (no b) d = spoilt i q (next-sound (i .ending) e f (i .stands .number) (i .stands .place)) (d, b) (t .2) short
 
           go : Undecoded S (some (page, cell)) → Inv l off nx nf past now
-          go (inl d) = dark (S .blank? cell) d
+          go (inl d) = dark (blank? S L cell) d
           go (inr c) =
               passed i heldContent m (i .split ∙ rw (q, c) refl) refl held-strict held-whole (i .stands .small) (i .stands .memory)
-              (t .2, S .short-none)
+              (t .2, short-none S L)
 
     -- power goes: what is in memory is lost, and the cell of a page that waits is blank, torn or whole
     pub settle : {l : List Page} (ph : Phase) {nx nf : ℕ} {past : List (List (ℕ × Record))} {now : List (ℕ × Record)} → Inv l ph nx nf past now
         → Inv l off nx nf past now
     settle off i = i
-    settle idle i = turned i (i .mem) (i .logged) (i .stands .blanks, rw (i .stands .memory) (S .short-none))
+    settle idle i = turned i (i .mem) (i .logged) (i .stands .blanks, rw (i .stands .memory) (short-none S L))
     settle (filling f s e rows) i =
-        turned i (i .mem) (i .logged) (i .stands .0 .blanks, rw (i .stands .0 .memory) (S .short-page e f rows (i .stands .0 .packs)))
+        turned i (i .mem) (i .logged) (i .stands .0 .blanks, rw (i .stands .0 .memory) (short-page S L e f rows (i .stands .0 .packs)))
     settle (holding f sq e recording page) i = settle-held i (i .more) refl (i .stands .tail)

@@ -1,77 +1,123 @@
 -- What drain logs is exactly the logged ones among the records that left the queue, in order, turn by turn; and the marks of every writer of
 -- a life are settled, call by call. Assumes nothing.
 use Prim.Native.Nat.{ℕ, zero, suc}
-use mathlib.Core.Path.{_≡_, refl, sym, ap, _∙_, subst}
+use mathlib.Core.Path.{_≡_, refl, sym, ap, ap₂, _∙_, subst}
 use mathlib.Core.Bool.{Bool, true, false, cond, false≢true}
 use mathlib.Core.Option.{Option, none, some}
 use mathlib.Core.Logic.{_⊎_, inl, inr}
 use mathlib.Core.List.{List, [], _∷_, _++_, append-assoc, append-nil}
-use Rattle.power.specs.Pages.{PageStore}
+use Rattle.power.specs.Pages.{PageStore, full}
+use Rattle.power.specs.Lawful.{Lawful}
 use Rattle.power.specs.Writer.{Assembler, Writer, new, taken, takenRecord, stored, finished, laid, pushed, stopped, withAssembler, begun}
 use Rattle.power.specs.Calls.{Pass, Step, goes-on, ends, programIfRoom, putPage, logs, takeOne, takeNext, afterPut, onward, turns, withWriter}
 use Rattle.power.specs.Calls.{endsFlight, drainWritable, withQueue, dropOne, fetched, fetchedIfWritable, unasked, endedWith, writeOne}
 use Rattle.power.specs.Life.{Device, Call, offers, drains, writes, powers, begin, call, lives, unpowered}
-use Rattle.power.specs.Reports.{recordsIn, loggedOnes, markFirst, MarksSettled, LoggedExactly, AllJoin, DrainLogs, MarksInLives}
+use Rattle.power.specs.Reports.{recordsIn, editionIf, recordedAs, logsOne, loggedOnes, markFirst, MarksSettled, LoggedExactly, DrainLogs, MarksInLives}
 use Rattle.power.proofs.Puts.{SameMarks, Goes, StepFacts, fetching-alike, room-facts, put-facts, drain-on}
 use Rattle.power.proofs.Passes.{both-ways}
 
-module _ {Page Record Mask : Type 0} (S : PageStore Page Record Mask) where
+module _ {Page Record Mask : Type 0} (S : PageStore Page Record Mask) (L : Lawful S) where
   push-marks : (a : Assembler S) (r : Record) → ((pushed S r a) .markPending ≡ false) × ((pushed S r a) .recording ≡ a .recording)
   push-marks a r =
-      both-ways (λ (b : Assembler S). (b .markPending ≡ false) × (b .recording ≡ a .recording)) (S .full (a .rows ++ r ∷ []))
+      both-ways (λ (b : Assembler S). (b .markPending ≡ false) × (b .recording ≡ a .recording)) (full S (a .edition) (a .rows ++ r ∷ []))
       (finished S (laid S r a)) (laid S r a) (refl, refl) (refl, refl)
 
-  stop-marks : (rows : List Record) (a : Assembler S) → a .rows ≡ rows → ((stopped S a) .markPending ≡ a .markPending) × ((stopped S a) .recording ≡ false)
+  pub stop-marks : (rows : List Record) (a : Assembler S) → a .rows ≡ rows → ((stopped S a) .markPending ≡ a .markPending) × ((stopped S a) .recording ≡ false)
   stop-marks [] a e = rw e (refl, refl)
   stop-marks (r ∷ rows) a e = rw e (refl, refl)
 
   -- the marks of a writer stay settled through every call
-  settled-as : {w v : Writer S} → SameMarks S v w → MarksSettled S w → MarksSettled S v
+  pub settled-as : {w v : Writer S} → SameMarks S v w → MarksSettled S w → MarksSettled S v
   settled-as k m = record { pending = k .markPending ∙ m .pending; due = λ h. k .markDue ∙ m .due (sym (k .recording) ∙ h) }
 
-  settled-new : MarksSettled S (new S)
+  pub settled-new : MarksSettled S (new S)
   settled-new = record { pending = refl; due = λ h. absurd (false≢true h) }
 
-  settled-halt : {w v : Writer S} → SameMarks S v w ⊎ (v ≡ new S) → MarksSettled S w → MarksSettled S v
+  pub settled-halt : {w v : Writer S} → SameMarks S v w ⊎ (v ≡ new S) → MarksSettled S w → MarksSettled S v
   settled-halt (inl k) m = settled-as k m
   settled-halt (inr e) m = rw e settled-new
 
-  settled-stop : (w : Writer S) → MarksSettled S w → MarksSettled S (withAssembler S (stopped S (w .assembler)) w)
+  pub settled-stop : (w : Writer S) → MarksSettled S w → MarksSettled S (withAssembler S (stopped S (w .assembler)) w)
   settled-stop w m =
       record {
         pending = (stop-marks (w .assembler .rows) (w .assembler) refl) .0 ∙ m .pending;
         due = λ h. absurd (false≢true (sym ((stop-marks (w .assembler .rows) (w .assembler) refl) .1) ∙ h));
       }
 
-  settled-record : (y r : Bool) (x : Record) (w : Writer S) → w .assembler .recording ≡ r → MarksSettled S w → MarksSettled S (taken S y r x w)
+  pub settled-record : (y r : Bool) (x : Record) (w : Writer S) → w .assembler .recording ≡ r → MarksSettled S w → MarksSettled S (taken S y r x w)
   settled-record true true x w e m =
       both-ways (MarksSettled S) (S .joins (w .assembler .edition) x) (withAssembler S (pushed S (stored S (w .assembler) x) (w .assembler)) w) w
       (record { pending = (push-marks (w .assembler) (stored S (w .assembler) x)) .0; due = λ h. m .due e }) m
   settled-record true false x w e m =
-      rw (S .joins-own x) (record { pending = (push-marks ((begun S x w) .assembler) (stored S ((begun S x w) .assembler) x)) .0; due = λ h. refl })
+      rw (L .joins-own x) (record { pending = (push-marks ((begun S x w) .assembler) (stored S ((begun S x w) .assembler) x)) .0; due = λ h. refl })
   settled-record false true x w e m = settled-stop w m
   settled-record false false x w e m = m
 
   -- the entry that a record adds is the record where it is to be logged, with the mark where that is due
-  unmarked : (rs : List Record) → markFirst S false rs ≡ rs
+  pub unmarked : (rs : List Record) → markFirst S false rs ≡ rs
   unmarked [] = refl
   unmarked (r ∷ rs) = refl
 
-  mark-record : AllJoin S → (y r : Bool) (x : Record) (w : Writer S) → w .assembler .recording ≡ r → MarksSettled S w → (rs : List Record)
-      → markFirst S (w .markDue) (cond y (x ∷ rs) rs) ≡ recordsIn S (takenRecord S y r x w) ++ markFirst S ((taken S y r x w) .markDue) rs
-  mark-record joins true true x w e m rs = rw (joins (w .assembler .edition) x) (same (w .markDue) (m .due e))
+  -- the flight that is recorded, by its edition
+  recorded-as : (w : Writer S) (b : Bool) (e : S .Edition) → w .assembler .recording ≡ b → w .assembler .edition ≡ e → recordedAs S w ≡ editionIf S b e
+  recorded-as w b e p q = ap₂ (editionIf S) p q
+
+  pub push-edition : (a : Assembler S) (r : Record) → (pushed S r a) .edition ≡ a .edition
+  push-edition a r =
+      both-ways (λ (b : Assembler S). b .edition ≡ a .edition) (full S (a .edition) (a .rows ++ r ∷ [])) (finished S (laid S r a)) (laid S r a) refl refl
+
+  mark-record : (y r : Bool) (x : Record) (w : Writer S) → w .assembler .recording ≡ r → MarksSettled S w → (rest : Option (S .Edition) → List Record)
+      → markFirst S (w .markDue) (logsOne S y (recordedAs S w) x rest)
+      ≡ recordsIn S (takenRecord S y r x w) ++ markFirst S ((taken S y r x w) .markDue) (rest (recordedAs S (taken S y r x w)))
+  mark-record true true x w e m rest =
+      ap (λ (o : Option (S .Edition)). markFirst S (w .markDue) (logsOne S true o x rest)) here ∙ by-joins (S .joins (w .assembler .edition) x)
     where
+      here : recordedAs S w ≡ some (w .assembler .edition)
+      here = recorded-as w true (w .assembler .edition) e refl
+
+      after : Writer S
+      after = withAssembler S (pushed S (stored S (w .assembler) x) (w .assembler)) w
+
+      there : recordedAs S after ≡ some (w .assembler .edition)
+      there =
+          recorded-as after true (w .assembler .edition) ((push-marks (w .assembler) (stored S (w .assembler) x)) .1 ∙ e)
+          (push-edition (w .assembler) (stored S (w .assembler) x))
+
       plain : stored S (w .assembler) x ≡ x
       plain = ap (λ (b : Bool). cond b (S .marked x) x) (m .pending)
 
-      same : (due : Bool) → due ≡ false → markFirst S due (x ∷ rs) ≡ stored S (w .assembler) x ∷ markFirst S due rs
-      same true h = absurd (false≢true (sym h))
-      same false h = ap {B = List Record} (λ y. y ∷ rs) (sym plain) ∙ ap {B = List Record} (λ l. stored S (w .assembler) x ∷ l) (sym (unmarked rs))
-  mark-record joins true false x w e m rs = rw (joins (S .edition x) x) (ap {B = List Record} (λ l. cond (w .markDue) (S .marked x) x ∷ l) (sym (unmarked rs)))
-  mark-record joins false true x w e m rs = refl
-  mark-record joins false false x w e m rs = refl
+      same : (due : Bool) → due ≡ false → (rs : List Record) → markFirst S due (x ∷ rs) ≡ stored S (w .assembler) x ∷ markFirst S due rs
+      same true h rs = absurd (false≢true (sym h))
+      same false h rs = ap {B = List Record} (λ y. y ∷ rs) (sym plain) ∙ ap {B = List Record} (λ l. stored S (w .assembler) x ∷ l) (sym (unmarked rs))
 
-  records-in-append : (a b : List (ℕ × Record)) → recordsIn S (a ++ b) ≡ recordsIn S a ++ recordsIn S b
+      by-joins : (b : Bool)
+          → markFirst S (w .markDue) (cond b (x ∷ rest (some (w .assembler .edition))) (rest (some (w .assembler .edition))))
+          ≡ recordsIn S (cond b ((w .assembler .flight, stored S (w .assembler) x) ∷ []) [])
+          ++ markFirst S ((cond b after w) .markDue) (rest (recordedAs S (cond b after w)))
+      by-joins true =
+          same (w .markDue) (m .due e) (rest (some (w .assembler .edition)))
+          ∙ ap {B = List Record} (λ (o : Option (S .Edition)). stored S (w .assembler) x ∷ markFirst S (w .markDue) (rest o)) (sym there)
+      by-joins false = ap (λ (o : Option (S .Edition)). markFirst S (w .markDue) (rest o)) (sym here)
+  mark-record true false x w e m rest =
+      ap (λ (o : Option (S .Edition)). markFirst S (w .markDue) (logsOne S true o x rest)) (recorded-as w false (w .assembler .edition) e refl)
+      ∙ rw (L .joins-own x)
+      (ap {B = List Record} (λ (l : List Record). cond (w .markDue) (S .marked x) x ∷ l)
+      (ap rest (sym there) ∙ sym (unmarked (rest (recordedAs S after)))))
+    where
+      after : Writer S
+      after = withAssembler S (pushed S (stored S ((begun S x w) .assembler) x) ((begun S x w) .assembler)) (begun S x w)
+
+      there : recordedAs S after ≡ some (S .edition x)
+      there =
+          recorded-as after true (S .edition x) ((push-marks ((begun S x w) .assembler) (stored S ((begun S x w) .assembler) x)) .1)
+          (push-edition ((begun S x w) .assembler) (stored S ((begun S x w) .assembler) x))
+  mark-record false true x w e m rest =
+      ap (λ (o : Option (S .Edition)). markFirst S (w .markDue) (rest o))
+      (sym (recorded-as (withAssembler S (stopped S (w .assembler)) w) false ((stopped S (w .assembler)) .edition) ((stop-marks (w .assembler .rows) (w .assembler) refl) .1) refl))
+  mark-record false false x w e m rest =
+      ap (λ (o : Option (S .Edition)). markFirst S (w .markDue) (rest o)) (sym (recorded-as w false (w .assembler .edition) e refl))
+
+  pub records-in-append : (a b : List (ℕ × Record)) → recordsIn S (a ++ b) ≡ recordsIn S a ++ recordsIn S b
   records-in-append [] b = refl
   records-in-append (x ∷ a) b = ap {B = List Record} (λ l. x .1 ∷ l) (records-in-append a b)
 
@@ -88,7 +134,7 @@ module _ {Page Record Mask : Type 0} (S : PageStore Page Record Mask) where
         logged = ap (recordsIn S) e ∙ sym (append-nil (recordsIn S (p .logged)));
       }
 
-  module _ (joins : AllJoin S) (wd : Bool) where
+  module _ (wd : Bool) where
     -- a record left the queue, and then those that left it in the turns that were left
     exact-one : (p q r : Pass S) (x : Record) (queue : List Record) → Goes S (p .succeed) p q → q .queue ≡ x ∷ queue → MarksSettled S (q .writer)
         → LoggedExactly S wd (takeOne S wd x queue q) r → LoggedExactly S wd p r
@@ -104,16 +150,19 @@ module _ {Page Record Mask : Type 0} (S : PageStore Page Record Mask) where
               ∙ ap (λ (l : List Record). l ++ later) (records-in-append (q .logged) entry)
               ∙ append-assoc (recordsIn S (q .logged)) (recordsIn S entry) later
               ∙ ap (λ (l : List Record). recordsIn S (q .logged) ++ l)
-              (sym (mark-record joins (logs S wd x) (q .writer .assembler .recording) x (q .writer) refl m (loggedOnes S wd (k .left))))
-              ∙ ap (λ (l : List (ℕ × Record)). recordsIn S l ++ markFirst S (q .writer .markDue) (loggedOnes S wd (x ∷ k .left))) (f .logged)
-              ∙ ap (λ (b : Bool). recordsIn S (p .logged) ++ markFirst S b (loggedOnes S wd (x ∷ k .left))) (f .marks .markDue);
+              (sym (mark-record (logs S wd x) (q .writer .assembler .recording) x (q .writer) refl m (λ o. loggedOnes S wd o (k .left))))
+              ∙ ap (λ (l : List (ℕ × Record)). recordsIn S l ++ markFirst S (q .writer .markDue) (loggedOnes S wd (recordedAs S (q .writer)) (x ∷ k .left))) (f .logged)
+              ∙ ap₂ (λ (b : Bool) (o : Option (S .Edition)). recordsIn S (p .logged) ++ markFirst S b (loggedOnes S wd o (x ∷ k .left))) (f .marks .markDue)
+              (ap₂ (editionIf S) (f .marks .recording) (f .marks .edition));
         }
       where
         entry : List (ℕ × Record)
         entry = takenRecord S (logs S wd x) (q .writer .assembler .recording) x (q .writer)
 
         later : List Record
-        later = markFirst S ((taken S (logs S wd x) (q .writer .assembler .recording) x (q .writer)) .markDue) (loggedOnes S wd (k .left))
+        later =
+            markFirst S ((taken S (logs S wd x) (q .writer .assembler .recording) x (q .writer)) .markDue)
+            (loggedOnes S wd (recordedAs S (taken S (logs S wd x) (q .writer .assembler .recording) x (q .writer))) (k .left))
 
     module _ (k : Pass S → Pass S) (ih : (p : Pass S) → p .powerGone ≡ false → MarksSettled S (p .writer) → LoggedExactly S wd p (k p)) (p : Pass S)
         (g : p .powerGone ≡ false) (m : MarksSettled S (p .writer)) where
@@ -129,7 +178,7 @@ module _ {Page Record Mask : Type 0} (S : PageStore Page Record Mask) where
       exact-step : (t : Step S) → StepFacts S (p .succeed) p t → LoggedExactly S wd p (onward S k (afterPut S wd t))
       exact-step (ends q) f = exact-none wd p q (f .logged) (λ h. (f .alive h) .0) (λ h. go (f .gone h))
         where
-          go : (p .powerGone ≡ true) ⊎ ((p .succeed ≡ 0) × (q .queue ≡ [])) → q .queue ≡ []
+          go : (p .powerGone ≡ true) ⊎ ((p .succeed ≡ 0) × (q .queue ≡ []) × (q .writer .writable ≡ false)) → q .queue ≡ []
           go (inl h) = absurd (false≢true (sym g ∙ h))
           go (inr h) = h .1
       exact-step (goes-on q) f = exact-next (q .queue) q refl f
@@ -139,7 +188,7 @@ module _ {Page Record Mask : Type 0} (S : PageStore Page Record Mask) where
     exact-turns (suc limit) p g m = exact-step (λ q. turns S wd limit q) (λ q g m. exact-turns limit q g m) p g m (putPage S p) (put-facts S p)
 
   pub drain-logs : DrainLogs S
-  drain-logs joins d limit wd armed g z w m =
+  drain-logs d limit wd armed g z w m =
       subst (λ (q : Pass S). LoggedExactly S wd (begin S d g z) q) (sym (drain-on S limit wd armed (begin S d g z) w)) (by-queue (d .queue))
     where
       by-queue : (queue : List Record) → LoggedExactly S wd (begin S d g z) (drainWritable S limit wd armed queue (begin S d g z))
@@ -149,7 +198,7 @@ module _ {Page Record Mask : Type 0} (S : PageStore Page Record Mask) where
           (exact-none wd (begin S d g z) (withWriter S (withAssembler S (stopped S (d .writer .assembler)) (d .writer)) (begin S d g z)) refl
           (λ h. refl) (λ h. absurd (false≢true h)))
           (exact-none wd (begin S d g z) (begin S d g z) refl (λ h. refl) (λ h. absurd (false≢true h)))
-      by-queue (x ∷ queue) = exact-turns joins wd limit (begin S d g z) refl m
+      by-queue (x ∷ queue) = exact-turns wd limit (begin S d g z) refl m
 
   -- and so through every call
   settled-next : (wd : Bool) (k : Pass S → Pass S) → ((p : Pass S) → MarksSettled S (p .writer) → MarksSettled S ((k p) .writer))
@@ -182,7 +231,7 @@ module _ {Page Record Mask : Type 0} (S : PageStore Page Record Mask) where
       go (goes-on q) f = settled-as (f .marks) m
       go (ends q) f = settled-halt (f .marks) m
 
-  settled-fetched : (w : Writer S) → MarksSettled S w → MarksSettled S (fetchedIfWritable S w)
+  pub settled-fetched : (w : Writer S) → MarksSettled S w → MarksSettled S (fetchedIfWritable S w)
   settled-fetched w m = both-ways (MarksSettled S) (w .writable) (fetched S w) w (settled-as ((fetching-alike S (w .waiting) w) .marks) m) m
 
   settled-call : (c : Call S) (d : Device S) → MarksSettled S (d .writer) → MarksSettled S ((call S c d) .writer)

@@ -1,31 +1,33 @@
 -- Every moment of a call is the end of a life: between two records of a pass it is a pass with a smaller limit; after a program but before the
 -- next record such a pass and then write_pending; in the midst of a program such a pass and a write_pending that is cut. By induction on the
--- turns. Assumes nothing.
-use Prim.Native.Nat.{ℕ, zero, suc, _<_}
+-- turns, which carries that no more turns were done than the pass has. Assumes nothing.
+use Prim.Native.Nat.{ℕ, zero, suc, _+_, _≤_, _<_}
 use mathlib.Core.Path.{_≡_, refl, sym, ap, _∙_, subst}
 use mathlib.Core.Bool.{Bool, true, false, cond}
 use mathlib.Core.Option.{Option, none, some}
+use mathlib.Core.Logic.{inl, inr}
 use mathlib.Core.List.{List, [], _∷_, _++_, append-nil}
 use native.Mathlib.Omega.{arith}
 use lib.Dec.{ltb}
 use borrow.Author.Tests.{lt-ltb}
 use lib.ListN.{length}
 use Rattle.power.specs.Pages.{PageStore}
+use Rattle.power.specs.Lawful.{Lawful}
 use Rattle.power.specs.Reading.{recordsOn}
 use Rattle.power.specs.Writer.{Writer}
 use Rattle.power.specs.Calls.{Next, busy, fault, cut, Pass, Step, goes-on, ends, program, programIfRoom, put, putPage, fetched}
 use Rattle.power.specs.Calls.{fetchedIfWritable, withWriter, severed, takeOne, takeNext, afterPut, onward, turns, drainWritable}
 use Rattle.power.specs.Calls.{drain, writeOne, writePending, logs, endedWith}
-use Rattle.power.specs.Life.{Device, Call, drains, writes, powers, begin, afterPass, powerOn, call, lives, unpowered, history, Undecoded}
-use Rattle.power.specs.Life.{Assumed, AllAssumed, FlightsFit}
+use Rattle.power.specs.Life.{Device, Call, offers, drains, writes, powers, begin, afterPass, powerOn, call, lives, unpowered, history}
+use Rattle.power.specs.Life.{Undecoded, Assumed, AllAssumed, FlightsFit}
 use Rattle.power.specs.Theorem.{Holds}
 use Rattle.power.specs.Moments.{During, at-top, in-program, after-put, at-end, after-record, before, over, in-drain, in-write, LifeTo}
-use Rattle.power.specs.Moments.{EveryMoment, HoldsAtEveryMoment}
+use Rattle.power.specs.Moments.{Moment, MaskAllowed, NoLarger, Bounded, EveryMoment, HoldsAtEveryMoment}
 use Rattle.power.proofs.Puts.{Goes, put-facts, drain-on}
 use Rattle.power.proofs.Turns.{taken-writable}
 use Rattle.power.proofs.Theorem.{every-life}
 
-module _ {Page Record Mask : Type 0} (S : PageStore Page Record Mask) where
+module _ {Page Record Mask : Type 0} (S : PageStore Page Record Mask) (L : Lawful S) where
   -- a step that goes on is none that ends
   goes-is : {p q : Pass S} → _≡_ {A = Step S} (goes-on p) (goes-on q) → p ≡ q
   goes-is e = cc
@@ -38,13 +40,14 @@ module _ {Page Record Mask : Type 0} (S : PageStore Page Record Mask) where
     writable : q .writer .writable ≡ p .writer .writable
     unfinished : q .unfinished ≡ p .unfinished
 
-  -- a moment of the turns: after some turns, or in the midst of a program after them, or after the page was put
-  data At (wd : Bool) (p m : Pass S) : Type 0 where
-    reached : (n : ℕ) → turns S wd n p ≡ m → At wd p m
-    programming : (n : ℕ) (page : Page) (keep : Mask) → Running p (turns S wd n p) → (fetched S ((turns S wd n p) .writer)) .waiting ≡ some page
+  -- a moment of the turns: after some turns, at most the limit, or in the midst of a program after them, or after the page was put
+  data At (Allowed : Mask → Type 0) (wd : Bool) (limit : ℕ) (p m : Pass S) : Type 0 where
+    reached : (n : ℕ) → n ≤ limit → turns S wd n p ≡ m → At Allowed wd limit p m
+    programming : (n : ℕ) → n ≤ limit → (page : Page) (keep : Mask) → Allowed keep → Running p (turns S wd n p)
+        → (fetched S ((turns S wd n p) .writer)) .waiting ≡ some page
         → (fetched S ((turns S wd n p) .writer)) .nextPage < length ((turns S wd n p) .log)
-        → severed S keep page (withWriter S (fetched S ((turns S wd n p) .writer)) (turns S wd n p)) ≡ m → At wd p m
-    putted : (n : ℕ) → Running p (turns S wd n p) → putPage S (turns S wd n p) ≡ goes-on m → At wd p m
+        → severed S keep page (withWriter S (fetched S ((turns S wd n p) .writer)) (turns S wd n p)) ≡ m → At Allowed wd limit p m
+    putted : (n : ℕ) → n < limit → Running p (turns S wd n p) → putPage S (turns S wd n p) ≡ goes-on m → At Allowed wd limit p m
 
   running-put : (p q : Pass S) → putPage S p ≡ goes-on q → Running p q
   running-put p q e = let f : Goes S (p .succeed) p q = rw e at (put-facts S p) in record { writable = f .writable; unfinished = f .unfinished }
@@ -60,22 +63,24 @@ module _ {Page Record Mask : Type 0} (S : PageStore Page Record Mask) where
     running-turn x k =
         let f = running-put p q e in
         record {
-          writable = k .writable ∙ taken-writable S (logs S wd r) (q .writer .assembler .recording) r (q .writer) ∙ f .writable;
+          writable = k .writable ∙ taken-writable S L (logs S wd r) (q .writer .assembler .recording) r (q .writer) ∙ f .writable;
           unfinished = k .unfinished ∙ f .unfinished;
         }
 
-    later : {m : Pass S} → At wd (takeOne S wd r queue q) m → At wd p m
-    later (reached n k) = reached (suc n) (one-turn wd n p q r queue e h ∙ k)
-    later (programming n page keep k w i s) =
+    later : {Allowed : Mask → Type 0} {limit : ℕ} {m : Pass S} → At Allowed wd limit (takeOne S wd r queue q) m → At Allowed wd (suc limit) p m
+    later (reached n b k) = reached (suc n) (omega arith) (one-turn wd n p q r queue e h ∙ k)
+    later (programming n b page keep a k w i s) =
         let e₁ = one-turn wd n p q r queue e h in
-        programming (suc n) page keep (rw e₁ (running-turn (turns S wd n (takeOne S wd r queue q)) k)) (rw e₁ w) (rw e₁ i) (rw e₁ s)
-    later (putted n k s) = let e₁ = one-turn wd n p q r queue e h in putted (suc n) (rw e₁ (running-turn (turns S wd n (takeOne S wd r queue q)) k)) (rw e₁ s)
+        programming (suc n) (omega arith) page keep a (rw e₁ (running-turn (turns S wd n (takeOne S wd r queue q)) k)) (rw e₁ w) (rw e₁ i) (rw e₁ s)
+    later (putted n b k s) =
+        let e₁ = one-turn wd n p q r queue e h in
+        putted (suc n) (omega arith) (rw e₁ (running-turn (turns S wd n (takeOne S wd r queue q)) k)) (rw e₁ s)
 
-  moment-at : (wd : Bool) {limit : ℕ} {p m : Pass S} → During S wd limit p m → At wd p m
-  moment-at wd at-top = reached 0 refl
-  moment-at wd (in-program page keep w i) = programming 0 page keep (record { writable = refl; unfinished = refl }) w i refl
-  moment-at wd (after-put e) = putted 0 (record { writable = refl; unfinished = refl }) e
-  moment-at wd (at-end e) = reached 1 (ap (λ (t : Step S). onward S (λ x. x) (afterPut S wd t)) e)
+  moment-at : {Allowed : Mask → Type 0} (wd : Bool) {limit : ℕ} {p m : Pass S} → During S Allowed wd limit p m → At Allowed wd limit p m
+  moment-at wd at-top = reached 0 (omega arith) refl
+  moment-at wd (in-program page keep a w i) = programming 0 (omega arith) page keep a (record { writable = refl; unfinished = refl }) w i refl
+  moment-at wd (after-put e) = putted 0 (omega arith) (record { writable = refl; unfinished = refl }) e
+  moment-at wd (at-end e) = reached 1 (omega arith) (ap (λ (t : Step S). onward S (λ x. x) (afterPut S wd t)) e)
   moment-at wd (after-record {turns} {p} {q} {m} r queue e h k) = later wd p q r queue e h (moment-at wd k)
 
   -- what the next power-on finds is the log and the history
@@ -147,9 +152,14 @@ module _ {Page Record Mask : Type 0} (S : PageStore Page Record Mask) where
   undecoded-as : {p q : Pass S} → p ≡ q → Undecoded S (q .unfinished) → Undecoded S (p .unfinished)
   undecoded-as e un = subst (λ (x : Pass S). Undecoded S (x .unfinished)) (sym e) un
 
-  -- a moment of the turns that began with the device d
-  module _ (wd armed : Bool) (g : ℕ) (z : Next Mask) (d : Device S) (r : Record) (queue : List Record) (w : d .writer .writable ≡ true)
-      (e : d .queue ≡ r ∷ queue) where
+  -- a moment of the turns that began with the device d, in a pass that is no larger than the bound
+  module _ (Allowed : Mask → Type 0) (bound limit : ℕ) (wd armed : Bool) (g : ℕ) (z : Next Mask)
+      (small : NoLarger S Allowed bound (drains limit wd armed g z)) (d : Device S) (r : Record) (queue : List Record)
+      (w : d .writer .writable ≡ true) (e : d .queue ≡ r ∷ queue) where
+    -- so is one of fewer turns
+    smaller : (n : ℕ) → n ≤ limit → NoLarger S Allowed bound (drains n wd armed g z)
+    smaller n b = let b′ = small .0 in (omega arith, small .1, small .2)
+
     -- after n turns, the pass and the device
     abbrev passed : ℕ → Pass S
     passed n = turns S wd n (begin S d g z)
@@ -170,16 +180,19 @@ module _ {Page Record Mask : Type 0} (S : PageStore Page Record Mask) where
     fetch : (n : ℕ) → Running (begin S d g z) (passed n) → fetchedIfWritable S ((passed n) .writer) ≡ fetched S ((passed n) .writer)
     fetch n k = fetched-writable ((passed n) .writer) (k .writable ∙ w)
 
-    life-at : {m : Pass S} → At wd (begin S d g z) m → Undecoded S (m .unfinished) → LifeTo S d (afterPass S d m)
-    life-at (reached n k) un =
+    life-at : {m : Pass S} → At Allowed wd limit (begin S d g z) m → Undecoded S (m .unfinished)
+        → LifeTo S Allowed bound (drains limit wd armed g z) d (afterPass S d m)
+    life-at (reached n b k) un =
         record {
           life = drains n wd armed g z ∷ [];
+          no-larger = inr (smaller n b, tt);
           assumed = (drain-assumed n (undecoded-as k un), tt);
           same = ap (powerOn S) (drained n ∙ ap (afterPass S d) k);
         }
-    life-at {m} (programming n page keep k h i s) un =
+    life-at {m} (programming n b page keep a k h i s) un =
         record {
           life = drains n wd armed g z ∷ writes 0 (cut keep) ∷ [];
+          no-larger = inr (smaller n b, ((omega arith, a), tt));
           assumed = then-assumed n (writes 0 (cut keep)) (k .unfinished) (undecoded-as is (undecoded-as s un));
           same =
               ap (λ (x : Device S). powerOn S (call S (writes 0 (cut keep)) x)) (drained n)
@@ -195,9 +208,10 @@ module _ {Page Record Mask : Type 0} (S : PageStore Page Record Mask) where
 
         logged : (stood n) .now ++ (writePending S (begin S (stood n) 0 (cut keep))) .logged ≡ d .now ++ m .logged
         logged = ap (λ (x : Pass S). (stood n) .now ++ x .logged) is ∙ append-nil ((stood n) .now) ∙ ap (λ (x : Pass S). d .now ++ x .logged) s
-    life-at {m} (putted n k h) un =
+    life-at {m} (putted n b k h) un =
         record {
           life = drains n wd armed g z ∷ writes 1 busy ∷ [];
+          no-larger = let b′ = small .0 in inr (smaller n (omega arith), ((omega arith, tt), tt));
           assumed = then-assumed n (writes 1 busy) (k .unfinished) (finished (wrote .unfinished));
           same =
               ap (λ (x : Device S). powerOn S (call S (writes 1 busy) x)) (drained n)
@@ -219,31 +233,68 @@ module _ {Page Record Mask : Type 0} (S : PageStore Page Record Mask) where
             ∙ ap (λ (l : List (ℕ × Record)). d .now ++ l) (sym same-logged)
 
   pub every-moment : EveryMoment S
-  every-moment c d d′ before = record { life = []; assumed = tt; same = refl }
-  every-moment c d d′ (over a) = record { life = c ∷ []; assumed = (a, tt); same = refl }
-  every-moment c d d′ (in-drain limit wd armed g z r queue w e k un) = life-at wd armed g z d r queue w e (moment-at wd k) un
-  every-moment c d d′ (in-write g z page keep w i un) =
+  every-moment Allowed n c d d′ b before = record { life = []; no-larger = inr tt; assumed = tt; same = refl }
+  every-moment Allowed n c d d′ b (over a) = record { life = c ∷ []; no-larger = inl refl; assumed = (a, tt); same = refl }
+  every-moment Allowed n c d d′ b (in-drain limit wd armed g z r queue w e k un) =
+      life-at Allowed n limit wd armed g z b d r queue w e (moment-at wd k) un
+  every-moment Allowed n c d d′ b (in-write g z page keep a w i un) =
       record {
         life = writes 0 (cut keep) ∷ [];
+        no-larger = inr ((omega arith, a), tt);
         assumed = (undecoded-as (write-severed d page keep w i) un, tt);
         same = ap (λ (x : Pass S). powerOn S (afterPass S d x)) (write-severed d page keep w i);
       }
 
-  lives-append : (a b : List (Call S)) (d : Device S) → lives S (a ++ b) d ≡ lives S b (lives S a d)
+  -- a moment is one still where every mask is allowed
+  abbrev Any : Mask → Type 0
+  Any keep = Unit {0}
+
+  any-during : {Allowed : Mask → Type 0} {wd : Bool} {limit : ℕ} {p m : Pass S} → During S Allowed wd limit p m → During S Any wd limit p m
+  any-during at-top = at-top
+  any-during (in-program page keep a w i) = in-program page keep tt w i
+  any-during (after-put e) = after-put e
+  any-during (at-end e) = at-end e
+  any-during (after-record r queue e h k) = after-record r queue e h (any-during k)
+
+  any-moment : {Allowed : Mask → Type 0} {c : Call S} {d d′ : Device S} → Moment S Allowed c d d′ → Moment S Any c d d′
+  any-moment before = before
+  any-moment (over a) = over a
+  any-moment (in-drain limit wd armed g z r queue w e k un) = in-drain limit wd armed g z r queue w e (any-during k) un
+  any-moment (in-write g z page keep a w i un) = in-write g z page keep tt w i un
+
+  -- and there a call is bounded by its own numbers
+  abbrev own : Call S → ℕ
+  own (offers r) = 0
+  own (drains limit wd armed g z) = limit + g
+  own (writes g z) = g
+  own powers = 0
+
+  any-mask : (z : Next Mask) → MaskAllowed S Any z
+  any-mask busy = tt
+  any-mask (fault keep) = tt
+  any-mask (cut keep) = tt
+
+  own-bounded : (c : Call S) → Bounded S Any (own c) c
+  own-bounded (offers r) = tt
+  own-bounded (drains limit wd armed g z) = (omega arith, omega arith, any-mask z)
+  own-bounded (writes g z) = (omega arith, any-mask z)
+  own-bounded powers = tt
+
+  pub lives-append : (a b : List (Call S)) (d : Device S) → lives S (a ++ b) d ≡ lives S b (lives S a d)
   lives-append [] b d = refl
   lives-append (c ∷ a) b d = lives-append a b (call S c d)
 
-  assumed-append : (a b : List (Call S)) (d : Device S) → AllAssumed S a d → AllAssumed S b (lives S a d) → AllAssumed S (a ++ b) d
+  pub assumed-append : (a b : List (Call S)) (d : Device S) → AllAssumed S a d → AllAssumed S b (lives S a d) → AllAssumed S (a ++ b) d
   assumed-append [] b d h k = k
   assumed-append (c ∷ a) b d h k = (h .0, assumed-append a b (call S c d) (h .1) k)
 
   pub holds-at-every-moment : HoldsAtEveryMoment S
-  holds-at-every-moment log b life a c d′ m fit =
+  holds-at-every-moment Allowed log b life a c d′ m fit =
       subst (λ (x : Device S). Holds S (recordsOn S log) x) (sym there)
-      (every-life S log b (life ++ (k .life ++ powers ∷ [])) assumed (subst (λ (x : Device S). FlightsFit S (history S x)) there fit))
+      (every-life S L log b (life ++ (k .life ++ powers ∷ [])) assumed (subst (λ (x : Device S). FlightsFit S (history S x)) there fit))
     where
-      k : LifeTo S (lives S life (unpowered S log)) d′
-      k = every-moment c (lives S life (unpowered S log)) d′ m
+      k : LifeTo S Any (own c) c (lives S life (unpowered S log)) d′
+      k = every-moment Any (own c) c (lives S life (unpowered S log)) d′ (own-bounded c) (any-moment m)
 
       there : powerOn S d′ ≡ lives S (life ++ (k .life ++ powers ∷ [])) (unpowered S log)
       there =

@@ -3,21 +3,26 @@
 -- Assumes nothing.
 use Prim.Native.Nat.{ℕ, zero, suc, _+_, _≤_, _<_}
 use mathlib.Core.Path.{_≡_, refl, ap, _∙_}
-use mathlib.Core.Bool.{Bool, true, false, cond}
+use mathlib.Core.Bool.{Bool, true, false, cond, false≢true}
 use mathlib.Core.Option.{Option, none, some}
 use mathlib.Core.Logic.{_⊎_}
 use mathlib.Core.List.{List, [], _∷_, _++_, append-assoc, append-nil}
+use native.Mathlib.Omega.{arith}
 use lib.Dec.{ltb}
 use borrow.Author.Tests.{ltb-true}
 use lib.ListN.{length}
-use Rattle.power.specs.Pages.{PageStore, Each}
+use Rattle.power.specs.Pages.{PageStore, Each, full}
+use Rattle.power.specs.Lawful.{Lawful}
 use Rattle.power.specs.Claims.{OnlyAdds}
 use Rattle.power.specs.Writer.{Assembler, Writer, pushed, stored, withAssembler, begun, taken, takenRecord}
 use Rattle.power.specs.Calls.{Next, busy, fault, cut, Pass, Step, goes-on, ends, program, programIfRoom, putPage, withWriter}
 use Rattle.power.specs.Life.{Undecoded}
+use Rattle.power.proofs.Used.{none-some}
 use Rattle.power.proofs.Invariant.{Ground, Phase, off, idle, filling, holding, Inv, settle}
 use Rattle.power.proofs.Adds.{adds-none, adds-then}
+use Rattle.power.proofs.TornCount.{Tears, tears-none, tears-then, tears-as}
 use Rattle.power.proofs.Events.{wrote, pushedPhase, keep-written, keep-failed, keep-adds, keep-push, keep-stop, start-filling}
+use Rattle.power.proofs.Events.{keep-torn-written, keep-torn-calm, keep-torn-failed, keep-torn-ends, keep-torn-left, keep-front}
 
 pub each-left : {A : Type 0} (P : A → Type 0) (xs ys : List A) → Each P (xs ++ ys) → Each P xs
 each-left P [] ys h = tt
@@ -36,16 +41,16 @@ pub both-ways : {A : Type 0} (P : A → Type 0) (b : Bool) (x y : A) → P x →
 both-ways P true x y h k = h
 both-ways P false x y h k = k
 
-module _ {Page Record Mask : Type 0} (S : PageStore Page Record Mask) where
+module _ {Page Record Mask : Type 0} (S : PageStore Page Record Mask) (L : Lawful S) where
   -- the phase that a writer is in, by what decides it: writable, the page that waits, the page that is ready, whether it records
-  abbrev pub phaseBy : Bool → Option Page → Option Page → Bool → Assembler S → Phase S
+  abbrev pub phaseBy : Bool → Option Page → Option Page → Bool → Assembler S → Phase S L
   phaseBy false waiting ready r a = off
   phaseBy true (some page) ready r a = holding (a .flight) (a .sequence) (a .edition) r page
   phaseBy true none (some page) r a = holding (a .flight) (a .sequence) (a .edition) r page
   phaseBy true none none true a = filling (a .flight) (a .sequence) (a .edition) (a .rows)
   phaseBy true none none false a = idle
 
-  abbrev pub phaseOf : Writer S → Phase S
+  abbrev pub phaseOf : Writer S → Phase S L
   phaseOf w = phaseBy (w .writable) (w .waiting) (w .assembler .ready) (w .assembler .recording) (w .assembler)
 
   -- a page that waits or is ready means no rows, and no mark is pending between records
@@ -84,7 +89,7 @@ module _ {Page Record Mask : Type 0} (S : PageStore Page Record Mask) where
   abbrev pub Small : List (ℕ × Record) → Type 0
   Small logged = Each (λ entry. entry .0 < S .limit) logged
 
-  wrote-phase : (r : Bool) (a : Assembler S) → a .rows ≡ [] → phaseBy true none none r a ≡ wrote S r (a .flight) (a .sequence) (a .edition)
+  wrote-phase : (r : Bool) (a : Assembler S) → a .rows ≡ [] → phaseBy true none none r a ≡ wrote S L r (a .flight) (a .sequence) (a .edition)
   wrote-phase true a e = ap (filling (a .flight) (a .sequence) (a .edition)) e
   wrote-phase false a e = refl
 
@@ -97,28 +102,28 @@ module _ {Page Record Mask : Type 0} (S : PageStore Page Record Mask) where
     abbrev pushing : Writer S
     pushing = shaped true none none true rows m v
 
-    push-phase : phaseOf (withAssembler S (pushed S y (pushing .assembler)) pushing) ≡ pushedPhase S (v .assembler .flight) (v .assembler .sequence)
+    push-phase : phaseOf (withAssembler S (pushed S y (pushing .assembler)) pushing) ≡ pushedPhase S L (v .assembler .flight) (v .assembler .sequence)
         (v .assembler .edition) (rows ++ y ∷ [])
-    push-phase = step (S .full (rows ++ y ∷ [])) refl
+    push-phase = step (full S (v .assembler .edition) (rows ++ y ∷ [])) refl
       where
-        step : (b : Bool) → S .full (rows ++ y ∷ []) ≡ b
-            → phaseOf (withAssembler S (pushed S y (pushing .assembler)) pushing) ≡ pushedPhase S (v .assembler .flight) (v .assembler .sequence)
+        step : (b : Bool) → full S (v .assembler .edition) (rows ++ y ∷ []) ≡ b
+            → phaseOf (withAssembler S (pushed S y (pushing .assembler)) pushing) ≡ pushedPhase S L (v .assembler .flight) (v .assembler .sequence)
             (v .assembler .edition) (rows ++ y ∷ [])
         step true h = rw h refl
         step false h = rw h refl
 
     push-sane : Sane (withAssembler S (pushed S y (pushing .assembler)) pushing)
-    push-sane = step (S .full (rows ++ y ∷ [])) refl
+    push-sane = step (full S (v .assembler .edition) (rows ++ y ∷ [])) refl
       where
-        step : (b : Bool) → S .full (rows ++ y ∷ []) ≡ b → Sane (withAssembler S (pushed S y (pushing .assembler)) pushing)
+        step : (b : Bool) → full S (v .assembler .edition) (rows ++ y ∷ []) ≡ b → Sane (withAssembler S (pushed S y (pushing .assembler)) pushing)
         step true h = rw h (refl, refl)
         step false h = rw h refl
 
   stored-fits : (a : Assembler S) (x : Record) → S .Fits x → S .Fits (stored S a x)
-  stored-fits a x h = both-ways (S .Fits) (a .markPending) (S .marked x) x (S .fits-marked x h) h
+  stored-fits a x h = both-ways (S .Fits) (a .markPending) (S .marked x) x (L .fits-marked x h) h
 
   stored-joins : (a : Assembler S) (e : S .Edition) (x : Record) → S .joins e x ≡ true → S .joins e (stored S a x) ≡ true
-  stored-joins a e x h = both-ways (λ y. S .joins e y ≡ true) (a .markPending) (S .marked x) x (S .joins-marked e x ∙ h) h
+  stored-joins a e x h = both-ways (λ y. S .joins e y ≡ true) (a .markPending) (S .marked x) x (L .joins-marked e x ∙ h) h
 
   -- the pass with so much logged
   abbrev pub withLogged : List (ℕ × Record) → Pass S → Pass S
@@ -136,9 +141,9 @@ module _ {Page Record Mask : Type 0} (S : PageStore Page Record Mask) where
       }
 
   -- in a power-on before which `past` was logged, and in which `now` was logged before the call
-  module _ (G : Ground S) (past : List (List (ℕ × Record))) (now : List (ℕ × Record)) where
-    abbrev I : List Page → Phase S → ℕ → ℕ → List (ℕ × Record) → Type 0
-    I l ph nx nf logged = Inv S G l ph nx nf past (now ++ logged)
+  module _ (G : Ground S L) (past : List (List (ℕ × Record))) (now : List (ℕ × Record)) where
+    abbrev I : List Page → Phase S L → ℕ → ℕ → List (ℕ × Record) → Type 0
+    I l ph nx nf logged = Inv S L G l ph nx nf past (now ++ logged)
 
     -- how a call stands
     pub record Good (p : Pass S) : Type 0 where
@@ -151,16 +156,17 @@ module _ {Page Record Mask : Type 0} (S : PageStore Page Record Mask) where
     pub record Keeps (p q : Pass S) : Type 0 where
       pub good : Good q
       pub adds : OnlyAdds S (p .log) (q .log)
+      pub tears : Tears S L p q
 
     -- why a flight that begins is below the limit: every flight of these records is, or the log has room for few
     abbrev pub Why : List (ℕ × Record) → Type 0
     Why logged = Small logged ⊎ (G .top + G .count + 2 ≤ S .limit)
 
     pub keeps-none : {p : Pass S} → Good p → Keeps p p
-    keeps-none {p} h = record { good = h; adds = adds-none S (p .log) }
+    keeps-none {p} h = record { good = h; adds = adds-none S L (p .log); tears = tears-none S L p }
 
     pub keeps-then : {p q r : Pass S} → Keeps p q → Keeps q r → Keeps p r
-    keeps-then a b = record { good = b .good; adds = adds-then S (a .adds) (b .adds) }
+    keeps-then a b = record { good = b .good; adds = adds-then S L (a .adds) (b .adds); tears = tears-then S L (a .tears) (b .tears) }
 
     -- no page waits and none is ready
     abbrev pub Clear : Writer S → Type 0
@@ -171,7 +177,7 @@ module _ {Page Record Mask : Type 0} (S : PageStore Page Record Mask) where
     StepKeeps p (ends q) = Undecoded S (q .unfinished) → Keeps p q
 
     -- the writer is gone, and with it where it stood
-    reset : {l : List Page} {nx nf : ℕ} {logged : List (ℕ × Record)} → Inv S G l off nx nf past logged → Inv S G l off 0 1 past logged
+    reset : {l : List Page} {nx nf : ℕ} {logged : List (ℕ × Record)} → Inv S L G l off nx nf past logged → Inv S L G l off 0 1 past logged
     reset j =
         record {
           base = j .base;
@@ -208,12 +214,20 @@ module _ {Page Record Mask : Type 0} (S : PageStore Page Record Mask) where
             record {
               good =
                   record {
-                    inv = rw (wrote-phase r (waits .writer .assembler) refl) (keep-written S G i inside);
+                    inv = rw (wrote-phase r (waits .writer .assembler) refl) (keep-written S L G i inside);
                     sane = wrote-sane r m hm;
                     fits = fits;
                     small = small;
                   };
-              adds = keep-adds S G i inside (S .clean);
+              adds = keep-adds S L G i inside (S .clean);
+              tears =
+                  record {
+                    few = λ n f.
+                        let w = keep-torn-written S L G i inside n (f .below refl) in
+                        record { at-most = omega (arith, w .0); below = λ a. w .1; clear = λ a b. w .0; ends = keep-torn-ends S L G i inside n (f .below refl) };
+                    calm = λ u. (u, keep-torn-calm S L G i inside);
+                    front = λ k u. (keep-front S L G i inside (S .clean) k (u refl), λ a. omega (arith, u refl));
+                  };
             },
             (refl, refl, refl),
             refl,
@@ -222,14 +236,35 @@ module _ {Page Record Mask : Type 0} (S : PageStore Page Record Mask) where
       program-keeps zero (fault keep) h = λ un.
           let inside = ltb-true (v .nextPage) (length (p .log)) h in
           record {
-            good = record { inv = keep-failed S G i inside keep un; sane = (refl, refl, hm); fits = fits; small = small };
-            adds = keep-adds S G i inside keep;
+            good = record { inv = keep-failed S L G i inside keep un; sane = (refl, refl, hm); fits = fits; small = small };
+            adds = keep-adds S L G i inside keep;
+            tears =
+                record {
+                  few = λ n f.
+                      let w = keep-torn-failed S L G i inside keep n (f .below refl) in
+                      record { at-most = w .0; below = λ a. w .1; clear = λ a b. absurd (none-some b refl); ends = keep-torn-left S L G i inside keep n (f .below refl) };
+                  calm = λ u. absurd (none-some u refl);
+                  front = λ k u. (keep-front S L G i inside keep k (u refl), u);
+                };
           }
       program-keeps zero (cut keep) h = λ un.
           let inside = ltb-true (v .nextPage) (length (p .log)) h in
           record {
-            good = record { inv = reset (settle S G _ (keep-failed S G i inside keep un)); sane = refl; fits = tt; small = small };
-            adds = keep-adds S G i inside keep;
+            good = record { inv = reset (settle S L G _ (keep-failed S L G i inside keep un)); sane = refl; fits = tt; small = small };
+            adds = keep-adds S L G i inside keep;
+            tears =
+                record {
+                  few = λ n f.
+                      let w = keep-torn-failed S L G i inside keep n (f .below refl) in
+                      record {
+                        at-most = w .0;
+                        below = λ a. absurd (false≢true a);
+                        clear = λ a b. absurd (false≢true a);
+                        ends = keep-torn-left S L G i inside keep n (f .below refl);
+                      };
+                  calm = λ u. absurd (none-some u refl);
+                  front = λ k u. (keep-front S L G i inside keep k (u refl), λ a. absurd (false≢true a));
+                };
           }
 
       pub room-keeps : (g : ℕ) (z : Next Mask) → StepKeeps waits (programIfRoom S g z page waits)
@@ -240,9 +275,16 @@ module _ {Page Record Mask : Type 0} (S : PageStore Page Record Mask) where
           step false h = rw h (λ un. keeps-none waits-good)
 
     -- the same from a pass with the same log and queue
-    pub step-as : (p q : Pass S) (t : Step S) → q .log ≡ p .log → q .queue ≡ p .queue → StepKeeps q t → StepKeeps p t
-    step-as p q (goes-on r) e d k = (record { good = k .0 .good; adds = rw e at (k .0 .adds) }, k .1, k .2 ∙ d)
-    step-as p q (ends r) e d k = λ un. record { good = (k un) .good; adds = rw e at ((k un) .adds) }
+    pub step-as : (p q : Pass S) (t : Step S) → q .log ≡ p .log → q .queue ≡ p .queue → Tears S L p q → StepKeeps q t → StepKeeps p t
+    step-as p q (goes-on r) e d x k = (record { good = k .0 .good; adds = rw e at (k .0 .adds); tears = tears-then S L x (k .0 .tears) }, k .1, k .2 ∙ d)
+    step-as p q (ends r) e d x k = λ un. record { good = (k un) .good; adds = rw e at ((k un) .adds); tears = tears-then S L x ((k un) .tears) }
+
+    -- the page that was ready waits
+    pub fetch-tears : (p : Pass S) (v : Writer S) (page : Page) (r : Bool) (rows : List Record) (m : Bool)
+        → Tears S L (withWriter S (shaped true none (some page) r rows m v) p) (withWriter S (shaped true (some page) none r rows m v) p)
+    fetch-tears p v page r rows m =
+        tears-as S L (withWriter S (shaped true none (some page) r rows m v) p) (withWriter S (shaped true (some page) none r rows m v) p) refl refl refl
+        (λ a. a) (λ a. refl)
 
     -- the top of a turn of drain
     pub put-keeps : (p : Pass S) (v : Writer S) (waiting ready : Option Page) (r : Bool) (rows : List Record) (m : Bool)
@@ -253,7 +295,7 @@ module _ {Page Record Mask : Type 0} (S : PageStore Page Record Mask) where
         let e = h .sane .0 in
         rw e
         (step-as (withWriter S (shaped true none (some page) r [] m v) p) (withWriter S (shaped true (some page) none r [] m v) p)
-        (programIfRoom S (p .succeed) (p .next) page (withWriter S (shaped true (some page) none r [] m v) p)) refl refl
+        (programIfRoom S (p .succeed) (p .next) page (withWriter S (shaped true (some page) none r [] m v) p)) refl refl (fetch-tears p v page r [] m)
         (room-keeps p v page r m (h .sane .1) (h .inv) (h .fits) (h .small) (p .succeed) (p .next)))
     put-keeps p v (some page) ready r rows m h =
         let e = h .sane .0 in
@@ -265,7 +307,7 @@ module _ {Page Record Mask : Type 0} (S : PageStore Page Record Mask) where
       abbrev entry : ℕ × Record
       entry = (v .assembler .flight, stored S (shaped true none none true rows m v .assembler) x)
 
-      add-keeps : I (p .log) (pushedPhase S (v .assembler .flight) (v .assembler .sequence) (v .assembler .edition) (rows ++ entry .1 ∷ []))
+      add-keeps : I (p .log) (pushedPhase S L (v .assembler .flight) (v .assembler .sequence) (v .assembler .edition) (rows ++ entry .1 ∷ []))
           (v .nextPage) (v .nextFlight) (p .logged ++ entry ∷ [])
           → Each (S .Fits) (p .queue) → Small (p .logged) → v .assembler .flight < S .limit
           → Good
@@ -281,11 +323,11 @@ module _ {Page Record Mask : Type 0} (S : PageStore Page Record Mask) where
           }
 
     -- what is appended to what the call logged is appended to what the power-on logged
-    logged-more : {l : List Page} {ph : Phase S} {nx nf : ℕ} (logged more : List (ℕ × Record)) → Inv S G l ph nx nf past ((now ++ logged) ++ more)
+    logged-more : {l : List Page} {ph : Phase S L} {nx nf : ℕ} (logged more : List (ℕ × Record)) → Inv S L G l ph nx nf past ((now ++ logged) ++ more)
         → I l ph nx nf (logged ++ more)
     logged-more logged more i = rw (append-assoc now logged more) at i
 
-    logged-none : {l : List Page} {ph : Phase S} {nx nf : ℕ} (logged : List (ℕ × Record)) → I l ph nx nf logged → I l ph nx nf (logged ++ [])
+    logged-none : {l : List Page} {ph : Phase S L} {nx nf : ℕ} (logged : List (ℕ × Record)) → I l ph nx nf logged → I l ph nx nf (logged ++ [])
     logged-none logged i = rw (append-nil logged) i
 
     -- one record from the queue, with no page waiting and none ready: to be logged or not, in a flight or not
@@ -304,24 +346,24 @@ module _ {Page Record Mask : Type 0} (S : PageStore Page Record Mask) where
             rw e
             (add-keeps p v rows m x
             (logged-more (p .logged) (entry p v rows m x ∷ [])
-            (keep-push S G (h .inv) (v .assembler .flight) (v .assembler .sequence) (v .assembler .edition) rows (h .inv .stands .0) (entry p v rows m x .1)
+            (keep-push S L G (h .inv) (v .assembler .flight) (v .assembler .sequence) (v .assembler .edition) rows (h .inv .stands .0) (entry p v rows m x .1)
             (stored-fits (shaped true none none true rows m v .assembler) x fx)
             (stored-joins (shaped true none none true rows m v .assembler) (v .assembler .edition) x e)))
             (h .fits) (h .small) (h .inv .stands .0 .small))
         step false e = rw e (record { inv = logged-none (p .logged) (h .inv); sane = h .sane; fits = h .fits; small = rw (append-nil (p .logged)) (h .small) })
     take-keeps p v x true false rows m h fx below =
-        rw (S .joins-own x)
+        rw (L .joins-own x)
         (add-keeps p (begun S x v) [] (v .markDue) x
         (logged-more (p .logged) (entry p (begun S x v) [] (v .markDue) x ∷ [])
-        (keep-push S G (h .inv) (v .nextFlight) 0 (S .edition x) [] (start-filling S G (h .inv) (S .edition x) (below refl refl))
+        (keep-push S L G (h .inv) (v .nextFlight) 0 (S .edition x) [] (start-filling S L G (h .inv) (S .edition x) (below refl refl))
         (entry p (begun S x v) [] (v .markDue) x .1)
-        (stored-fits (begun S x v .assembler) x fx) (stored-joins (begun S x v .assembler) (S .edition x) x (S .joins-own x))))
+        (stored-fits (begun S x v .assembler) x fx) (stored-joins (begun S x v .assembler) (S .edition x) x (L .joins-own x))))
         (h .fits) (h .small) (below refl refl))
     take-keeps p v x false true [] m h fx below =
         record {
           inv =
               logged-none (p .logged)
-              (keep-stop S G (h .inv) (v .assembler .flight) (v .assembler .sequence) (v .assembler .edition) [] (h .inv .stands .0)
+              (keep-stop S L G (h .inv) (v .assembler .flight) (v .assembler .sequence) (v .assembler .edition) [] (h .inv .stands .0)
               (h .inv .stands .1));
           sane = (refl, h .sane);
           fits = h .fits;
@@ -331,7 +373,7 @@ module _ {Page Record Mask : Type 0} (S : PageStore Page Record Mask) where
         record {
           inv =
               logged-none (p .logged)
-              (keep-stop S G (h .inv) (v .assembler .flight) (v .assembler .sequence) (v .assembler .edition) (z ∷ rows) (h .inv .stands .0)
+              (keep-stop S L G (h .inv) (v .assembler .flight) (v .assembler .sequence) (v .assembler .edition) (z ∷ rows) (h .inv .stands .0)
               (h .inv .stands .1));
           sane = (refl, h .sane);
           fits = h .fits;

@@ -20,12 +20,19 @@ module _ {Page Record Mask : Type 0} (S : PageStore Page Record Mask) where
     pub recording : w .assembler .recording ≡ v .assembler .recording
     pub markPending : w .assembler .markPending ≡ v .assembler .markPending
     pub markDue : w .markDue ≡ v .markDue
+    pub edition : w .assembler .edition ≡ v .assembler .edition
 
   pub marks-same : (w : Writer S) → SameMarks w w
-  marks-same w = record { recording = refl; markPending = refl; markDue = refl }
+  marks-same w = record { recording = refl; markPending = refl; markDue = refl; edition = refl }
 
   pub marks-then : {u v w : Writer S} → SameMarks u v → SameMarks v w → SameMarks u w
-  marks-then a b = record { recording = a .recording ∙ b .recording; markPending = a .markPending ∙ b .markPending; markDue = a .markDue ∙ b .markDue }
+  marks-then a b =
+      record {
+        recording = a .recording ∙ b .recording;
+        markPending = a .markPending ∙ b .markPending;
+        markDue = a .markDue ∙ b .markDue;
+        edition = a .edition ∙ b .edition;
+      }
 
   -- the call goes on: with `succeed` programs to succeed before, each page written rises next_page and takes one of them
   pub record Goes (succeed : ℕ) (p q : Pass S) : Type 0 where
@@ -45,14 +52,23 @@ module _ {Page Record Mask : Type 0} (S : PageStore Page Record Mask) where
     pub written : q .pagesWritten ≡ p .pagesWritten
     pub marks : SameMarks (q .writer) (p .writer) ⊎ (q .writer ≡ new S)
     pub alive : q .powerGone ≡ false → (q .queue ≡ p .queue) × (q .writer .nextPage ≡ p .writer .nextPage)
-    pub gone : q .powerGone ≡ true → (p .powerGone ≡ true) ⊎ ((succeed ≡ 0) × (q .queue ≡ []))
+    pub gone : q .powerGone ≡ true → (p .powerGone ≡ true) ⊎ ((succeed ≡ 0) × (q .queue ≡ []) × (q .writer .writable ≡ false))
+    pub writable : q .writer .writable ≡ true → p .writer .writable ≡ true
 
   abbrev pub StepFacts : ℕ → Pass S → Step S → Type 0
   StepFacts succeed p (goes-on q) = Goes succeed p q
   StepFacts succeed p (ends q) = Halts succeed p q
 
   halts-same : (succeed : ℕ) (p : Pass S) → Halts succeed p p
-  halts-same succeed p = record { logged = refl; written = refl; marks = inl (marks-same (p .writer)); alive = λ h. (refl, refl); gone = λ h. inl h }
+  halts-same succeed p =
+      record {
+        logged = refl;
+        written = refl;
+        marks = inl (marks-same (p .writer));
+        alive = λ h. (refl, refl);
+        gone = λ h. inl h;
+        writable = λ h. h;
+      }
 
   program-facts : (g : ℕ) (z : Next Mask) (page : Page) (p : Pass S) → StepFacts g p (program S g z page p)
   program-facts (suc g) z page p =
@@ -63,7 +79,7 @@ module _ {Page Record Mask : Type 0} (S : PageStore Page Record Mask) where
         powerGone = refl;
         next = refl;
         writable = refl;
-        marks = record { recording = refl; markPending = refl; markDue = refl };
+        marks = record { recording = refl; markPending = refl; markDue = refl; edition = refl };
         counted = omega arith;
         spent = omega arith;
       }
@@ -72,12 +88,20 @@ module _ {Page Record Mask : Type 0} (S : PageStore Page Record Mask) where
       record {
         logged = refl;
         written = refl;
-        marks = inl (record { recording = refl; markPending = refl; markDue = refl });
+        marks = inl (record { recording = refl; markPending = refl; markDue = refl; edition = refl });
         alive = λ h. (refl, refl);
         gone = λ h. inl h;
+        writable = λ h. h;
       }
   program-facts zero (cut keep) page p =
-      record { logged = refl; written = refl; marks = inr refl; alive = λ h. absurd (false≢true (sym h)); gone = λ h. inr (refl, refl) }
+      record {
+        logged = refl;
+        written = refl;
+        marks = inr refl;
+        alive = λ h. absurd (false≢true (sym h));
+        gone = λ h. inr (refl, refl, refl);
+        writable = λ h. absurd (false≢true h);
+      }
 
   pub room-facts : (g : ℕ) (z : Next Mask) (page : Page) (p : Pass S) → StepFacts g p (programIfRoom S g z page p)
   room-facts g z page p = step (ltb (p .writer .nextPage) (length (p .log))) refl
@@ -93,8 +117,8 @@ module _ {Page Record Mask : Type 0} (S : PageStore Page Record Mask) where
     pub marks : SameMarks w v
 
   pub fetching-alike : (o : Option Page) (w : Writer S) → Alike (fetching S o w) w
-  fetching-alike none w = record { nextPage = refl; writable = refl; marks = record { recording = refl; markPending = refl; markDue = refl } }
-  fetching-alike (some page) w = record { nextPage = refl; writable = refl; marks = record { recording = refl; markPending = refl; markDue = refl } }
+  fetching-alike none w = record { nextPage = refl; writable = refl; marks = record { recording = refl; markPending = refl; markDue = refl; edition = refl } }
+  fetching-alike (some page) w = record { nextPage = refl; writable = refl; marks = record { recording = refl; markPending = refl; markDue = refl; edition = refl } }
 
   -- facts of a call that differs in the writer only
   facts-as : (g : ℕ) (p : Pass S) (w : Writer S) → Alike w (p .writer) → (t : Step S) → StepFacts g (withWriter S w p) t → StepFacts g p t
@@ -117,6 +141,7 @@ module _ {Page Record Mask : Type 0} (S : PageStore Page Record Mask) where
         marks = go (f .marks);
         alive = λ h. ((f .alive h) .0, (f .alive h) .1 ∙ a .nextPage);
         gone = f .gone;
+        writable = λ h. sym (a .writable) ∙ f .writable h;
       }
     where
       go : SameMarks (q .writer) w ⊎ (q .writer ≡ new S) → SameMarks (q .writer) (p .writer) ⊎ (q .writer ≡ new S)

@@ -13,7 +13,8 @@ use lib.ListN.{length, length-append}
 use lib.Seq.{getD-append-add}
 use Rattle.laws.proofs.Halving.{bisecting-at}
 use Rattle.power.specs.Pages.{Decoded, PageStore}
-use Rattle.power.specs.Reading.{ScanAnswer, foreignAnswer, isBlank, Blanks, Whole, Torn, pageAt, firstBlank, flightOr, newestAfter, newestFlight}
+use Rattle.power.specs.Lawful.{Lawful}
+use Rattle.power.specs.Reading.{ScanAnswer, foreignAnswer, Blanks, Whole, Torn, pageAt, firstBlank, flightOr, newestAfter, newestFlight}
 use Rattle.power.specs.Grammar.{Ending, unused, ended, frayed, foreign, tornMore, newest, Sound, LooseRule, Follows, nothing-used, whole-page}
 use Rattle.power.specs.Grammar.{torn-page, Loose}
 use Rattle.power.specs.Claims.{ForeignLog, ScanSays}
@@ -21,30 +22,30 @@ use Rattle.power.specs.Scan.{flightOf, ownFlight, pageFlight, usedPages,
 use Rattle.power.proofs.Used.{none-some, length-snoc, blanks-at, at-all, at-left, at-snoc, flight-left}
 use Rattle.power.proofs.Used.{blank-yes, blank-no, used-not-blank, last, none-used, unused-none, last-shown, begun}
 
-module _ {Page Record Mask : Type 0} (S : PageStore Page Record Mask) where
+module _ {Page Record Mask : Type 0} (S : PageStore Page Record Mask) (L : Lawful S) where
   -- the first blank page, by halving and by reading
   module _ {l : List Page} {st : Ending Record} (u : Follows S (LooseRule S) l st) (m : List Page) (b : Blanks S m) where
     used-point : usedPages S (l ++ m) ≡ length l
     used-point =
-        bisecting-at (λ i. isBlank S (pageAt S (l ++ m) i)) (length (l ++ m)) (length l)
+        bisecting-at (λ i. S .isBlank (pageAt S (l ++ m) i)) (length (l ++ m)) (length l)
         (record { within = omega (arith, length-append l m); fails = low; passes = up })
       where
-        low : (i : ℕ) → i < length l → isBlank S (pageAt S (l ++ m) i) ≡ false
-        low i h = blank-no S (pageAt S (l ++ m) i) (rw (at-left S l m i h) (used-not-blank S u i h))
+        low : (i : ℕ) → i < length l → S .isBlank (pageAt S (l ++ m) i) ≡ false
+        low i h = blank-no S L (pageAt S (l ++ m) i) (rw (at-left S L l m i h) (used-not-blank S L u i h))
 
-        up : (i : ℕ) → length l ≤ i → i < length (l ++ m) → isBlank S (pageAt S (l ++ m) i) ≡ true
-        up i h k = blank-yes S (pageAt S (l ++ m) i) (ap (pageAt S (l ++ m)) e ∙ getD-append-add l m (i - length l) (S .blank) ∙ blanks-at S m b (i - length l))
+        up : (i : ℕ) → length l ≤ i → i < length (l ++ m) → S .isBlank (pageAt S (l ++ m) i) ≡ true
+        up i h k = blank-yes S L (pageAt S (l ++ m) i) (ap (pageAt S (l ++ m)) e ∙ getD-append-add l m (i - length l) (S .blank) ∙ blanks-at S L m b (i - length l))
           where
             e : i ≡ length l + (i - length l)
             e = omega arith
 
   blanks-first : (l m : List Page) → ((i : ℕ) → i < length l → ¬ (pageAt S l i ≡ S .blank)) → Blanks S m → firstBlank S (l ++ m) ≡ length l
   blanks-first [] [] h b = refl
-  blanks-first [] (p ∷ m) h b = rw (blank-yes S p (b .0)) refl
-  blanks-first (p ∷ l) m h b = rw (blank-no S p (h 0 (omega arith)), blanks-first l m (λ i q. h (suc i) (omega arith)) b) refl
+  blanks-first [] (p ∷ m) h b = rw (blank-yes S L p (b .0)) refl
+  blanks-first (p ∷ l) m h b = rw (blank-no S L p (h 0 (omega arith)), blanks-first l m (λ i q. h (suc i) (omega arith)) b) refl
 
   pub first-blank : {l : List Page} {st : Ending Record} → Follows S (LooseRule S) l st → (m : List Page) → Blanks S m → firstBlank S (l ++ m) ≡ length l
-  first-blank {l} u m b = blanks-first l m (used-not-blank S u) b
+  first-blank {l} u m b = blanks-first l m (used-not-blank S L u) b
 
   -- the verdict, by the ending
   abbrev pub verdictOf : Ending Record → ℕ → ℕ → ScanAnswer
@@ -61,19 +62,19 @@ module _ {Page Record Mask : Type 0} (S : PageStore Page Record Mask) where
       → verdict S (l ++ m) (suc k) ≡ record { page = suc k; flight = S .flightAfter f; writable = ltb (suc k) (length (l ++ m)) }
   verdict-sound l m k f c₀ h d e =
       ap₂ (λ (o n : Option ℕ). ifBegun S o (appending S (l ++ m) (suc k) n))
-      (ap (λ (p : Page). flightOf S (S .decode p)) (at-left S l m 0 (omega arith)) ∙ ap (flightOf S) d) (flight-left S l m k (omega arith) ∙ e)
+      (ap (λ (p : Page). flightOf S (S .decode p)) (at-left S L l m 0 (omega arith)) ∙ ap (flightOf S) d) (flight-left S L l m k (omega arith) ∙ e)
 
   verdict-at : {l : List Page} (st : Ending Record) → Follows S (LooseRule S) l st → (m : List Page) (k : ℕ) → length l ≡ k
       → verdict S (l ++ m) k ≡ verdictOf st k (length (l ++ m))
   verdict-at {l} unused u m zero h = refl
-  verdict-at {l} unused u m (suc k) h = absurd (last S u k h)
-  verdict-at {l} (ended c) u m zero h = absurd (none-used S u h)
-  verdict-at {l} (ended c) u m (suc k) h = verdict-sound l m k (c .flight) ((begun S u) .0) h ((begun S u) .1) (last-shown S u k h)
-  verdict-at {l} (frayed c) u m zero h = absurd (none-used S u h)
-  verdict-at {l} (frayed c) u m (suc k) h = verdict-sound l m k (c .flight) ((begun S u) .0) h ((begun S u) .1) (last-shown S u k h)
-  verdict-at {l} foreign u m zero h = absurd (none-used S u h)
+  verdict-at {l} unused u m (suc k) h = absurd (last S L u k h)
+  verdict-at {l} (ended c) u m zero h = absurd (none-used S L u h)
+  verdict-at {l} (ended c) u m (suc k) h = verdict-sound l m k (c .flight) ((begun S L u) .0) h ((begun S L u) .1) (last-shown S L u k h)
+  verdict-at {l} (frayed c) u m zero h = absurd (none-used S L u h)
+  verdict-at {l} (frayed c) u m (suc k) h = verdict-sound l m k (c .flight) ((begun S L u) .0) h ((begun S L u) .1) (last-shown S L u k h)
+  verdict-at {l} foreign u m zero h = absurd (none-used S L u h)
   verdict-at {l} foreign u m (suc k) h =
-      ap (λ (n : Option ℕ). ifBegun S (ownFlight S (l ++ m) 0) (appending S (l ++ m) (suc k) n)) (flight-left S l m k (omega arith) ∙ last-shown S u k h)
+      ap (λ (n : Option ℕ). ifBegun S (ownFlight S (l ++ m) 0) (appending S (l ++ m) (suc k) n)) (flight-left S L l m k (omega arith) ∙ last-shown S L u k h)
       ∙ begun-foreign (ownFlight S (l ++ m) 0)
 
   pub scan-is : {l : List Page} {st : Ending Record} → Follows S (LooseRule S) l st → (m : List Page) → Blanks S m
@@ -94,11 +95,11 @@ module _ {Page Record Mask : Type 0} (S : PageStore Page Record Mask) where
   torn-broken : (l : List Page) (p : Page) (st : Ending Record) → Follows S (LooseRule S) l st → Sound st → Torn S p → Alien (tornMore st) → (k : ℕ)
       → length l ≡ k → Broken (l ++ p ∷ []) (suc k)
   torn-broken [] p unused u a t z k h = inl t
-  torn-broken (q ∷ l) p unused u a t z k h = absurd (last S u (length l) refl)
+  torn-broken (q ∷ l) p unused u a t z k h = absurd (last S L u (length l) refl)
   torn-broken l p (ended g) u a t z k h = absurd z
-  torn-broken l p (frayed g) u a t z zero h = absurd (none-used S u h)
+  torn-broken l p (frayed g) u a t z zero h = absurd (none-used S L u h)
   torn-broken l p (frayed g) u a t z (suc k) h =
-      inr (k, refl, rw (at-left S l (p ∷ []) k (omega arith)) (last S u k h, used-not-blank S u k (omega arith)), rw (at-snoc S l p (suc k) (sym h)) t)
+      inr (k, refl, rw (at-left S L l (p ∷ []) k (omega arith)) (last S L u k h, used-not-blank S L u k (omega arith)), rw (at-snoc S L l p (suc k) (sym h)) t)
   torn-broken l p foreign u a t z k h = absurd a
 
   to-broken : {l : List Page} {st : Ending Record} → Follows S (LooseRule S) l st → Alien st → Broken l (length l)
@@ -109,23 +110,23 @@ module _ {Page Record Mask : Type 0} (S : PageStore Page Record Mask) where
   from-broken : (l : List Page) (st : Ending Record) → Follows S (LooseRule S) l st → Broken l (length l) → Alien st
   from-broken l foreign u h = tt
   from-broken [] unused u (inl t) = t .1 refl
-  from-broken (q ∷ l) unused u (inl t) = absurd (last S u (length l) refl)
-  from-broken l (ended c) u (inl t) = none-some (t .0) ((begun S u) .1)
-  from-broken l (frayed c) u (inl t) = none-some (t .0) ((begun S u) .1)
-  from-broken l unused u (inr t) = absurd (last S u (suc (t .0)) (t .1))
-  from-broken l (ended c) u (inr t) = none-some (t .3 .0) (last S u (suc (t .0)) (t .1))
-  from-broken l (frayed c) u (inr t) = none-some unread (last-shown S u (suc (t .0)) (t .1))
+  from-broken (q ∷ l) unused u (inl t) = absurd (last S L u (length l) refl)
+  from-broken l (ended c) u (inl t) = none-some (t .0) ((begun S L u) .1)
+  from-broken l (frayed c) u (inl t) = none-some (t .0) ((begun S L u) .1)
+  from-broken l unused u (inr t) = absurd (last S L u (suc (t .0)) (t .1))
+  from-broken l (ended c) u (inr t) = none-some (t .3 .0) (last S L u (suc (t .0)) (t .1))
+  from-broken l (frayed c) u (inr t) = none-some unread (last-shown S L u (suc (t .0)) (t .1))
     where
       unread : pageFlight S l (suc (t .0)) ≡ none
       unread = rw (t .3 .0, t .2 .0) refl
 
   broken-left : (l m : List Page) (k : ℕ) → Blanks S m → Broken (l ++ m) k → Broken l k
-  broken-left l m k b (inl t) = inl (rw (at-all S l m b 0) at t)
-  broken-left l m k b (inr t) = inr (t .0, t .1, rw (at-all S l m b (t .0)) at (t .2), rw (at-all S l m b (suc (t .0))) at (t .3))
+  broken-left l m k b (inl t) = inl (rw (at-all S L l m b 0) at t)
+  broken-left l m k b (inr t) = inr (t .0, t .1, rw (at-all S L l m b (t .0)) at (t .2), rw (at-all S L l m b (suc (t .0))) at (t .3))
 
   broken-right : (l m : List Page) (k : ℕ) → Blanks S m → Broken l k → Broken (l ++ m) k
-  broken-right l m k b (inl t) = inl (rw (at-all S l m b 0) t)
-  broken-right l m k b (inr t) = inr (t .0, t .1, rw (at-all S l m b (t .0)) (t .2), rw (at-all S l m b (suc (t .0))) (t .3))
+  broken-right l m k b (inl t) = inl (rw (at-all S L l m b 0) t)
+  broken-right l m k b (inr t) = inr (t .0, t .1, rw (at-all S L l m b (t .0)) (t .2), rw (at-all S L l m b (suc (t .0))) (t .3))
 
   pub foreign-is : {l : List Page} {st : Ending Record} → Follows S (LooseRule S) l st → (m : List Page) → Blanks S m → ForeignLog S (l ++ m) ↔ Alien st
   foreign-is {l} {st} u m b =
@@ -138,7 +139,7 @@ module _ {Page Record Mask : Type 0} (S : PageStore Page Record Mask) where
 
   pub newest-blanks : (g : ℕ) (m : List Page) → Blanks S m → newestAfter S g m ≡ g
   newest-blanks g [] b = refl
-  newest-blanks g (p ∷ m) b = rw (b .0, S .decode-blank) (newest-blanks g m (b .1))
+  newest-blanks g (p ∷ m) b = rw (b .0, L .decode-blank) (newest-blanks g m (b .1))
 
   abbrev Newest : Ending Record → ℕ → Type 0
   Newest unused g = g ≡ 0
@@ -173,10 +174,10 @@ module _ {Page Record Mask : Type 0} (S : PageStore Page Record Mask) where
   Used foreign k = Unit {0}
 
   used-is : {l : List Page} (st : Ending Record) → Follows S (LooseRule S) l st → (k : ℕ) → length l ≡ k → Used st k
-  used-is unused u k h = unused-none S u k h
-  used-is (ended c) u zero h = absurd (none-used S u h)
+  used-is unused u k h = unused-none S L u k h
+  used-is (ended c) u zero h = absurd (none-used S L u h)
   used-is (ended c) u (suc k) h = omega arith
-  used-is (frayed c) u zero h = absurd (none-used S u h)
+  used-is (frayed c) u zero h = absurd (none-used S L u h)
   used-is (frayed c) u (suc k) h = omega arith
   used-is foreign u k h = tt
 
@@ -187,7 +188,7 @@ module _ {Page Record Mask : Type 0} (S : PageStore Page Record Mask) where
       → _≡_ {A = ScanAnswer} (record { page = k; flight = S .flightAfter (c .flight); writable = ltb k count })
       (record { page = k; flight = suc g; writable = ltb k count }))
   sound-says c k g count B ne e p h =
-      ((λ q. absurd (zero-not (ap (λ (x : ScanAnswer). x .page) q)), λ y. absurd (ne y)), λ y. rw (e, S .flight-after (c .flight) h) refl)
+      ((λ q. absurd (zero-not (ap (λ (x : ScanAnswer). x .page) q)), λ y. absurd (ne y)), λ y. rw (e, L .flight-after (c .flight) h) refl)
     where
       zero-not : k ≡ 0 → ⊥
       zero-not q = omega arith

@@ -14,6 +14,7 @@ use lib.ListN.{length}
 use Rattle.laws.specs.Halving.{Threshold}
 use Rattle.laws.proofs.Halving.{bisecting-threshold}
 use Rattle.power.specs.Pages.{Decoded, PageStore}
+use Rattle.power.specs.Lawful.{Lawful}
 use Rattle.power.specs.Reading.{Blanks, pageAt, firstBlank}
 use Rattle.power.specs.Grammar.{Ending, unused, ended, frayed, foreign, tornMore, newest, Sound, NotFalling, LooseRule, Follows, nothing-used}
 use Rattle.power.specs.Grammar.{whole-page, torn-page, Loose}
@@ -22,10 +23,10 @@ use Rattle.power.specs.Scan.{flightOf, pageFlight, flightNumber, firstFr
 use Rattle.power.proofs.Used.{none-some, some-is, length-snoc, at-left, at-snoc, flight-left, flight-own, used-not-blank, last, last-shown}
 use Rattle.power.proofs.Scan.{first-blank, foreign-is, Alien}
 
-module _ {Page Record Mask : Type 0} (S : PageStore Page Record Mask) where
+module _ {Page Record Mask : Type 0} (S : PageStore Page Record Mask) (L : Lawful S) where
   -- an ending that isn't foreign
   abbrev Clear : Ending Record → Type 0
-  Clear st = ¬ Alien S st
+  Clear st = ¬ Alien S L st
 
   sound-clear : (st : Ending Record) → Sound st → Clear st
   sound-clear unused a z = z
@@ -52,9 +53,9 @@ module _ {Page Record Mask : Type 0} (S : PageStore Page Record Mask) where
   rises-torn foreign w = absurd (w tt)
 
   top : {l : List Page} (st : Ending Record) → Follows S (LooseRule S) l st → Clear st → (k : ℕ) → length l ≡ suc k → pageFlight S l k ≡ some (newest st)
-  top unused u w k h = absurd (last S u k h)
-  top (ended c) u w k h = last-shown S u k h
-  top (frayed c) u w k h = last-shown S u k h
+  top unused u w k h = absurd (last S L u k h)
+  top (ended c) u w k h = last-shown S L u k h
+  top (frayed c) u w k h = last-shown S L u k h
   top foreign u w k h = absurd (w tt)
 
   -- page i has a flight, and none above `most`
@@ -67,7 +68,7 @@ module _ {Page Record Mask : Type 0} (S : PageStore Page Record Mask) where
   flown-snoc l p most most′ le e c i h = go (decLt i (length l))
     where
       go : Dec (i < length l) → Flown (l ++ p ∷ []) most′ i
-      go (yes q) = let x = c i q in (x .0, flight-left S l (p ∷ []) i q ∙ x .1, omega (arith, x .2))
+      go (yes q) = let x = c i q in (x .0, flight-left S L l (p ∷ []) i q ∙ x .1, omega (arith, x .2))
       go (no q) = let z : length l ≡ i = omega (arith, length-snoc l p) in (most′, rw z at e, omega arith)
 
   flown : {l : List Page} {st : Ending Record} → Follows S (LooseRule S) l st → Clear st → (i : ℕ) → i < length l → Flown l (newest st) i
@@ -92,7 +93,7 @@ module _ {Page Record Mask : Type 0} (S : PageStore Page Record Mask) where
   order-snoc l p most most′ le e c o i j ij h = go (decLt j (length l))
     where
       go : Dec (j < length l) → flightNumber S (l ++ p ∷ []) i ≤ flightNumber S (l ++ p ∷ []) j
-      go (yes q) = rw (flight-left S l (p ∷ []) j q, flight-left S l (p ∷ []) i (omega arith)) (o i j ij q)
+      go (yes q) = rw (flight-left S L l (p ∷ []) j q, flight-left S L l (p ∷ []) i (omega arith)) (o i j ij q)
       go (no q) =
           let z : length l ≡ j = omega (arith, length-snoc l p) in
           let x = flown-snoc l p most most′ le e c i (omega arith) in
@@ -120,22 +121,22 @@ module _ {Page Record Mask : Type 0} (S : PageStore Page Record Mask) where
   rise-snoc l p e c i h d = go (decLt (suc i) (length l))
     where
       go : Dec (suc i < length l) → flightNumber S (l ++ p ∷ []) i < flightNumber S (l ++ p ∷ []) (suc i)
-      go (yes q) = rw (flight-left S l (p ∷ []) (suc i) q, flight-left S l (p ∷ []) i (omega arith)) (c i q (rw (at-left S l (p ∷ []) i (omega arith)) at d))
+      go (yes q) = rw (flight-left S L l (p ∷ []) (suc i) q, flight-left S L l (p ∷ []) i (omega arith)) (c i q (rw (at-left S L l (p ∷ []) i (omega arith)) at d))
       go (no q) = e i (omega (arith, length-snoc l p)) d
 
   rise-whole : (l : List Page) (p : Page) (st : Ending Record) (c : Decoded Record) → Follows S (LooseRule S) l st → NotFalling st c
       → S .decode p ≡ some c → (k : ℕ) → length l ≡ suc k → Rises (l ++ p ∷ []) k
-  rise-whole l p unused c u a d k e t = absurd (last S u k e)
-  rise-whole l p (ended g) c u a d k e t = absurd (none-some (rw (at-left S l (p ∷ []) k (omega arith)) at t) (last S u k e))
+  rise-whole l p unused c u a d k e t = absurd (last S L u k e)
+  rise-whole l p (ended g) c u a d k e t = absurd (none-some (rw (at-left S L l (p ∷ []) k (omega arith)) at t) (last S L u k e))
   rise-whole l p (frayed g) c u a d k e t =
-      rw (flight-left S l (p ∷ []) k (omega arith), last-shown S u k e, flight-own S (l ++ p ∷ []) (suc k) c (rw (at-snoc S l p (suc k) (sym e)) d))
+      rw (flight-left S L l (p ∷ []) k (omega arith), last-shown S L u k e, flight-own S L (l ++ p ∷ []) (suc k) c (rw (at-snoc S L l p (suc k) (sym e)) d))
       (omega arith)
   rise-whole l p foreign c u a d k e t = absurd a
 
   rise-torn : (l : List Page) (p : Page) (st : Ending Record) → Follows S (LooseRule S) l st → Clear (tornMore st) → (k : ℕ) → length l ≡ suc k
       → Rises (l ++ p ∷ []) k
   rise-torn l p unused u w k e t = absurd (w tt)
-  rise-torn l p (ended g) u w k e t = absurd (none-some (rw (at-left S l (p ∷ []) k (omega arith)) at t) (last S u k e))
+  rise-torn l p (ended g) u w k e t = absurd (none-some (rw (at-left S L l (p ∷ []) k (omega arith)) at t) (last S L u k e))
   rise-torn l p (frayed g) u w k e t = absurd (w tt)
   rise-torn l p foreign u w k e t = absurd (w tt)
 
@@ -161,7 +162,7 @@ module _ {Page Record Mask : Type 0} (S : PageStore Page Record Mask) where
       go (some c) q = inl (c, q, some-is (rw q at e))
 
   from-counts : (l : List Page) (f i : ℕ) → CountsWith S f l i → pageFlight S l i ≡ some f
-  from-counts l f i (inl w) = flight-own S l i (w .0) (w .1) ∙ ap {B = Option ℕ} some (w .2)
+  from-counts l f i (inl w) = flight-own S L l i (w .0) (w .1) ∙ ap {B = Option ℕ} some (w .2)
   from-counts l f i (inr t) = let e = t .2 in rw e (behind (rw e at (t .0 .0)))
     where
       behind : S .decode (pageAt S l (suc (t .1))) ≡ none → pageFlight S l (suc (t .1)) ≡ some f
@@ -221,7 +222,7 @@ module _ {Page Record Mask : Type 0} (S : PageStore Page Record Mask) where
               absurd
               (omega
               (arith, rise i (omega (arith, kB)) d, same i (omega (arith, kB)) a (omega arith), same (suc i) (omega (arith, kB)) (omega arith) b))
-          inner i a b (some c) d = (c, d, omega (arith, number-is l i (c .flight) (flight-own S l i c d), same i (omega (arith, kB)) a (omega arith)))
+          inner i a b (some c) d = (c, d, omega (arith, number-is l i (c .flight) (flight-own S L l i c d), same i (omega (arith, kB)) a (omega arith)))
 
           inside : (i : ℕ) → i < k → pageFlight S l i ≡ some f → InSpan S (span S A B) i
           inside i h q = (after-A (decLt i A), before-B (decLt i B))
@@ -281,33 +282,43 @@ module _ {Page Record Mask : Type 0} (S : PageStore Page Record Mask) where
 
   finds : (l m : List Page) (st : Ending Record) → Follows S (LooseRule S) l st → Blanks S m → ¬ ForeignLog S (l ++ m) → (f : ℕ)
       → SearchFinds S (l ++ m) f (find S (l ++ m) (length l) f)
-  finds l m st u b ok f = search-is (l ++ m) (length l) f (first-blank S u m b) ink all mono rise
+  finds l m st u b ok f = search-is (l ++ m) (length l) f (first-blank S L u m b) ink all mono rise
     where
       clear : Clear st
-      clear z = ok ((foreign-is S u m b) .1 z)
+      clear z = ok ((foreign-is S L u m b) .1 z)
 
       ink : (i : ℕ) → i < length l → ¬ (pageAt S (l ++ m) i ≡ S .blank)
-      ink i h = rw (at-left S l m i h) (used-not-blank S u i h)
+      ink i h = rw (at-left S L l m i h) (used-not-blank S L u i h)
 
       all : (i : ℕ) → i < length l → pageFlight S (l ++ m) i ≡ some (flightNumber S (l ++ m) i)
-      all i h = let x = flown u clear i h in rw (flight-left S l m i h, x .1) refl
+      all i h = let x = flown u clear i h in rw (flight-left S L l m i h, x .1) refl
 
       mono : (i j : ℕ) → i ≤ j → j < length l → flightNumber S (l ++ m) i ≤ flightNumber S (l ++ m) j
-      mono i j ij h = rw (flight-left S l m j h, flight-left S l m i (omega arith)) (orders u clear i j ij h)
+      mono i j ij h = rw (flight-left S L l m j h, flight-left S L l m i (omega arith)) (orders u clear i j ij h)
 
       rise : (i : ℕ) → suc i < length l → Rises (l ++ m) i
-      rise i h d = rw (flight-left S l m (suc i) h, flight-left S l m i (omega arith)) (rise-all u clear i h (rw (at-left S l m i (omega arith)) at d))
+      rise i h d = rw (flight-left S L l m (suc i) h, flight-left S L l m i (omega arith)) (rise-all u clear i h (rw (at-left S L l m i (omega arith)) at d))
 
   -- (e) of a log that follows the loose grammar
   pub search-finds : (l : List Page) → Loose S l → ¬ ForeignLog S l → (f : ℕ) → SearchFinds S l f (find S l (firstBlank S l) f)
   search-finds l w =
       rw (w .split)
-      (λ ok f. rw (first-blank S (w .follows) (w .rest) (w .blanks)) (finds (w .used) (w .rest) (w .ending) (w .follows) (w .blanks) ok f))
+      (λ ok f. rw (first-blank S L (w .follows) (w .rest) (w .blanks)) (finds (w .used) (w .rest) (w .ending) (w .follows) (w .blanks) ok f))
 
   -- and every used page of such a log has a flight
   all-known : (l m : List Page) (st : Ending Record) → Follows S (LooseRule S) l st → Blanks S m → ¬ ForeignLog S (l ++ m) → FlightsKnown S (l ++ m) (length l)
-  all-known l m st u b ok i h = let x = flown u (λ z. ok ((foreign-is S u m b) .1 z)) i h in (x .0, flight-left S l m i h ∙ x .1)
+  all-known l m st u b ok i h = let x = flown u (λ z. ok ((foreign-is S L u m b) .1 z)) i h in (x .0, flight-left S L l m i h ∙ x .1)
 
   pub flights-known : (l : List Page) → Loose S l → ¬ ForeignLog S l → FlightsKnown S l (firstBlank S l)
   flights-known l w =
-      rw (w .split) (λ ok. rw (first-blank S (w .follows) (w .rest) (w .blanks)) (all-known (w .used) (w .rest) (w .ending) (w .follows) (w .blanks) ok))
+      rw (w .split) (λ ok. rw (first-blank S L (w .follows) (w .rest) (w .blanks)) (all-known (w .used) (w .rest) (w .ending) (w .follows) (w .blanks) ok))
+
+  -- and none above the newest
+  all-below : (l m : List Page) (st : Ending Record) → Follows S (LooseRule S) l st → Blanks S m → ¬ ForeignLog S (l ++ m) → (i : ℕ) → i < length l
+      → flightNumber S (l ++ m) i ≤ newest st
+  all-below l m st u b ok i h =
+      let x = flown u (λ z. ok ((foreign-is S L u m b) .1 z)) i h in omega (arith, number-is (l ++ m) i (x .0) (flight-left S L l m i h ∙ x .1), x .2)
+
+  pub flights-below : (l : List Page) (w : Loose S l) → ¬ ForeignLog S l → (i : ℕ) → i < firstBlank S l → flightNumber S l i ≤ newest (w .ending)
+  flights-below l w =
+      rw (w .split) (λ ok. rw (first-blank S L (w .follows) (w .rest) (w .blanks)) (all-below (w .used) (w .rest) (w .ending) (w .follows) (w .blanks) ok))

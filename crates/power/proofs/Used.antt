@@ -2,7 +2,7 @@
 -- page 0 is whole unless the log is foreign. By induction on the pages. Assumes nothing.
 use Prim.Native.Nat.{ℕ, zero, suc, _<_}
 use mathlib.Core.Path.{_≡_, refl, sym, ap, ap₂, _∙_}
-use mathlib.Core.Bool.{true, false}
+use mathlib.Core.Bool.{Bool, true, false, false≢true}
 use mathlib.Core.Option.{Option, none, some}
 use mathlib.Core.List.{List, [], _∷_, _++_, append-assoc}
 use native.Mathlib.Omega.{arith}
@@ -10,7 +10,8 @@ use native.Mathlib.Decide.{decLt}
 use lib.ListN.{length, length-append, List·getD-append}
 use lib.Seq.{getD-at}
 use Rattle.power.specs.Pages.{Decoded, PageStore}
-use Rattle.power.specs.Reading.{isBlank, Blanks, Whole, pageAt, recordsOf, recordsOn}
+use Rattle.power.specs.Lawful.{Lawful}
+use Rattle.power.specs.Reading.{Blanks, Whole, pageAt, recordsOf, recordsOn}
 use Rattle.power.specs.Grammar.{Ending, unused, ended, frayed, foreign, tornMore, Sound, NotFalling, LooseRule, Follows, nothing-used}
 use Rattle.power.specs.Grammar.{whole-page, torn-page, LogBy}
 use Rattle.power.specs.Scan.{flightOf, orElse, pageFlight}
@@ -54,14 +55,14 @@ Begun {Record} (ended g) d = (c : Decoded Record) × (d ≡ some c)
 Begun {Record} (frayed g) d = (c : Decoded Record) × (d ≡ some c)
 Begun foreign d = Unit {0}
 
-module _ {Page Record Mask : Type 0} (S : PageStore Page Record Mask) where
+module _ {Page Record Mask : Type 0} (S : PageStore Page Record Mask) (L : Lawful S) where
   pub records-append : (l m : List Page) → recordsOn S (l ++ m) ≡ recordsOn S l ++ recordsOn S m
   records-append [] m = refl
   records-append (p ∷ l) m = rw (records-append l m) (sym (append-assoc (recordsOf S (S .decode p)) (recordsOn S l) (recordsOn S m)))
 
   pub records-blanks : (l : List Page) → Blanks S l → recordsOn S l ≡ []
   records-blanks [] b = refl
-  records-blanks (p ∷ l) b = rw (b .0, S .decode-blank) (records-blanks l (b .1))
+  records-blanks (p ∷ l) b = rw (b .0, L .decode-blank) (records-blanks l (b .1))
 
   pub blanks-at : (m : List Page) → Blanks S m → (j : ℕ) → pageAt S m j ≡ S .blank
   blanks-at [] b j = refl
@@ -91,21 +92,25 @@ module _ {Page Record Mask : Type 0} (S : PageStore Page Record Mask) where
   flight-own l (suc k) c d = rw d refl
 
   pub whole-not-blank : {p : Page} {c : Decoded Record} → Whole S p c → ¬ (p ≡ S .blank)
-  whole-not-blank {p} {c} d b = none-some (ap (S .decode) b ∙ S .decode-blank) d
+  whole-not-blank {p} {c} d b = none-some (ap (S .decode) b ∙ L .decode-blank) d
 
-  pub blank-yes : (p : Page) → p ≡ S .blank → isBlank S p ≡ true
-  blank-yes p e = go (S .blank? p) refl
-    where
-      go : (d : Dec (p ≡ S .blank)) → S .blank? p ≡ d → isBlank S p ≡ true
-      go (yes h) q = rw (q, isBlank) refl
-      go (no h) q = absurd (h e)
+  pub blank-yes : (p : Page) → p ≡ S .blank → S .isBlank p ≡ true
+  blank-yes p e = L .blank-told p .1 e
 
-  pub blank-no : (p : Page) → ¬ (p ≡ S .blank) → isBlank S p ≡ false
-  blank-no p e = go (S .blank? p) refl
+  pub blank-no : (p : Page) → ¬ (p ≡ S .blank) → S .isBlank p ≡ false
+  blank-no p e = go (S .isBlank p) refl
     where
-      go : (d : Dec (p ≡ S .blank)) → S .blank? p ≡ d → isBlank S p ≡ false
-      go (yes h) q = absurd (e h)
-      go (no h) q = rw (q, isBlank) refl
+      go : (b : Bool) → S .isBlank p ≡ b → S .isBlank p ≡ false
+      go true h = absurd (e (L .blank-told p .0 h))
+      go false h = h
+
+  -- whether a page is the blank one can be told
+  pub blank? : (p : Page) → Dec (p ≡ S .blank)
+  blank? p = go (S .isBlank p) refl
+    where
+      go : (b : Bool) → S .isBlank p ≡ b → Dec (p ≡ S .blank)
+      go true h = yes (L .blank-told p .0 h)
+      go false h = no (λ e. false≢true (sym h ∙ blank-yes p e))
 
   -- what holds of each page of a log, and of one more, holds of each page with that one
   each-snoc : (P : Page → Type 0) (l : List Page) (p : Page) → ((i : ℕ) → i < length l → P (pageAt S l i)) → P p → (i : ℕ) → i < length (l ++ p ∷ [])

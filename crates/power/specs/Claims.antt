@@ -7,18 +7,19 @@ use mathlib.Core.Logic.{_⊎_, _↔_}
 use mathlib.Core.List.{List, [], _∷_, _++_}
 use lib.Dec.{ltb}
 use lib.ListN.{length}
-use Rattle.power.specs.Pages.{Decoded, PageStore}
+use Rattle.power.specs.Pages.{Decoded, PageStore, Each, mostLost}
 use Rattle.power.specs.Reading.{ScanAnswer, foreignAnswer, Span, Whole, Torn, pageAt, firstBlank, newestFlight, recordsOn}
 
 module _ {Page Record Mask : Type 0} (S : PageStore Page Record Mask) where
   -- (a) "Then of the records logged in a power-on, all but at most the last five are on flash, in order, in their flights"
   -- The history is one list for each power-on: what was logged in it, each record with its flight and as it is stored. Behind the records
   -- that were there at the beginning, power-on after power-on, what was logged is a kept part and a lost rest at its end; the records on
-  -- flash are the kept parts, one after another; and each rest is short, which is five records at most for pages of five.
+  -- flash are the kept parts, one after another; and each rest is at most as many records as a page of the edition of the last record that
+  -- was logged in that power-on holds: five for version 1, four for version 2.
   pub data Kept (there : List (ℕ × Record)) : List (List (ℕ × Record)) → List (ℕ × Record) → Type 0 where
     no-power-on : Kept there [] there
     power-on : {history : List (List (ℕ × Record))} {flash : List (ℕ × Record)} (kept lost : List (ℕ × Record)) → Kept there history flash
-        → S .Short lost → Kept there (history ++ (kept ++ lost) ∷ []) (flash ++ kept)
+        → length lost ≤ mostLost S (kept ++ lost) → Kept there (history ++ (kept ++ lost) ∷ []) (flash ++ kept)
 
   -- (b) "and stay there"
   -- The log keeps its length, a whole page stays as it is, and records are only added behind those that are there.
@@ -67,3 +68,13 @@ module _ {Page Record Mask : Type 0} (S : PageStore Page Record Mask) where
   abbrev pub SearchFinds : List Page → ℕ → Option Span → Type 0
   SearchFinds log flight none = (i : ℕ) → i < firstBlank S log → ¬ WholeOf flight (pageAt S log i)
   SearchFinds log flight (some span) = SpanOf log flight span
+
+  -- (f) P9: "A log may hold both, but a flight has one"
+  -- The records of two whole pages of one flight are all of one edition.
+  abbrev pub AllOf : S .Edition → List Record → Type 0
+  AllOf e rows = Each (λ r. S .edition r ≡ e) rows
+
+  abbrev pub OneEdition : List Page → Type 0
+  OneEdition log =
+      (i j : ℕ) (c d : Decoded Record) → Whole S (pageAt S log i) c → Whole S (pageAt S log j) d → c .flight ≡ d .flight
+      → (e : S .Edition) × AllOf e (c .rows) × AllOf e (d .rows)

@@ -11,7 +11,7 @@ use Rattle.power.specs.Writer.{recover}
 use Rattle.power.specs.Calls.{busy, fault, cut, drain, writePending}
 use Rattle.power.specs.Life.{Device, Call, offers, drains, writes, powers, begin, lives, unpowered, history}
 use Rattle.power.specs.Theorem.{erased}
-use Rattle.power.specs.Small.{SmallRecord, row, flown, booted, parked, SmallPage, clear, ragged, sheet, keeps-nothing, keeps-some, keeps-all, small}
+use Rattle.power.specs.Small.{SmallRecord, row, wide, flown, booted, parked, SmallPage, clear, ragged, sheet, keeps-nothing, keeps-some, keeps-all, small}
 
 -- the device after a life from an erased log of four pages
 abbrev pub after : List (Call small) → Device small
@@ -253,3 +253,19 @@ notFresh =
 not-fresh : writePending small (begin small notFresh 9 busy) .log ≡ sheet 1 0 (booted 1 ∷ flown 2 ∷ []) ∷ clear ∷ clear ∷ clear ∷ []
 unfolding notFresh pageWaits bisect bisecting
 not-fresh = refl
+
+-- Two editions: a flight is of its first record's. A record of the other edition is refused and changes nothing, also where it would have
+-- filled the page; once the flight has ended it begins one of its own, whose pages hold three. Of five records logged in the last power-on
+-- the two behind the page of three are lost, which is no more than the three that may be where the last is of the second edition.
+twoEditions : List (Call small)
+twoEditions =
+    powers ∷ offers (flown 1) ∷ offers (wide true false 2) ∷ offers (flown 3) ∷ offers (parked 4) ∷ armedPass 9
+    ∷ offers (wide true false 5) ∷ offers (flown 6) ∷ offers (wide true false 7) ∷ offers (wide true false 8) ∷ offers (wide true false 9) ∷ offers (wide true false 10) ∷ armedPass 9
+    ∷ powers ∷ []
+
+two-editions : Leaves twoEditions
+    (sheet 1 0 (booted 1 ∷ flown 3 ∷ []) ∷ sheet 2 0 (wide true false 5 ∷ wide true false 7 ∷ wide true false 8 ∷ []) ∷ clear ∷ clear ∷ [])
+    ([] ∷ ((1, booted 1) ∷ (1, flown 3) ∷ (2, wide true false 5) ∷ (2, wide true false 7) ∷ (2, wide true false 8) ∷ (2, wide true false 9) ∷ (2, wide true false 10) ∷ []) ∷ [] ∷ [])
+    (record { page = 2; flight = 3; writable = true })
+unfolding twoEditions bisect bisecting
+two-editions = (refl, refl, refl)

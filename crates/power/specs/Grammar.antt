@@ -5,7 +5,7 @@ use mathlib.Core.Path.{_≡_}
 use mathlib.Core.Bool.{true}
 use mathlib.Core.Logic.{_⊎_}
 use mathlib.Core.List.{List, [], _∷_, _++_}
-use Rattle.power.specs.Pages.{Decoded, PageStore}
+use Rattle.power.specs.Pages.{Decoded, PageStore, Packs, full}
 use Rattle.power.specs.Reading.{Blanks, Whole, Torn}
 
 -- where the used pages end: nothing is used; the last page is whole, and this is what it says; the last page is torn, and this is what the
@@ -58,7 +58,7 @@ module _ {Page Record Mask : Type 0} (S : PageStore Page Record Mask) where
   abbrev pub FurtherPage : Ending Record → S .Edition → ℕ → ℕ → Type 0
   FurtherPage unused e flight sequence = ⊥
   FurtherPage (ended before) e flight sequence =
-      (flight ≡ before .flight) × (sequence ≡ suc (before .sequence)) × (S .full (before .rows) ≡ true) × S .Packs e (before .rows)
+      (flight ≡ before .flight) × (sequence ≡ suc (before .sequence)) × (full S e (before .rows) ≡ true) × Packs S e (before .rows)
   FurtherPage (frayed before) e flight sequence = ⊥
   FurtherPage foreign e flight sequence = ⊥
 
@@ -71,7 +71,7 @@ module _ {Page Record Mask : Type 0} (S : PageStore Page Record Mask) where
     pub encoded : page ≡ S .encode (content .flight) (content .sequence) (content .rows)
     pub some-rows : ¬ (content .rows ≡ [])
     pub edition : S .Edition
-    pub packs : S .Packs edition (content .rows)
+    pub packs : Packs S edition (content .rows)
     pub next : NextPage ending edition (content .flight) (content .sequence)
 
   -- the used pages, by a rule for whole pages: a torn page may follow any ending that isn't foreign

@@ -1,4 +1,5 @@
 pub mod Pages
+pub mod Lawful
 pub mod Reading
 pub mod Grammar
 pub mod Claims
@@ -9,5 +10,11 @@ pub mod Life
 pub mod Theorem
 pub mod Moments
 pub mod Reports
+pub mod Segments
+pub mod Boards
+pub mod Offers
+pub mod Torn
+pub mod Spared
 pub mod Small
 pub mod Examples
+pub mod BoardExamples

@@ -2,7 +2,7 @@
 -- From document 01, "Scan, search and acknowledgements". Nothing here halves, and nothing here writes.
 use Prim.Native.Nat.{ℕ, suc}
 use mathlib.Core.Path.{_≡_}
-use mathlib.Core.Bool.{Bool, true, false, cond}
+use mathlib.Core.Bool.{Bool, false, cond}
 use mathlib.Core.Option.{Option, none, some}
 use mathlib.Core.List.{List, [], _∷_, _++_}
 use lib.ListN.{getD}
@@ -24,10 +24,6 @@ pub record Span : Type 0 where
   pub pages : ℕ
 
 module _ {Page Record Mask : Type 0} (S : PageStore Page Record Mask) where
-  -- whether a page is blank
-  abbrev pub isBlank : Page → Bool
-  isBlank page = elim (S .blank? page) [ yes h ↦ true | no h ↦ false ]
-
   -- each of these pages is blank
   abbrev pub Blanks : List Page → Type 0
   Blanks [] = Unit {0}
@@ -48,7 +44,7 @@ module _ {Page Record Mask : Type 0} (S : PageStore Page Record Mask) where
   -- the first blank page, or the page count if there is none; the pages below it are used
   abbrev pub firstBlank : List Page → ℕ
   firstBlank [] = 0
-  firstBlank (page ∷ log) = cond (isBlank page) 0 (suc (firstBlank log))
+  firstBlank (page ∷ log) = cond (S .isBlank page) 0 (suc (firstBlank log))
 
   -- the flight that a page says, or else another
   abbrev pub flightOr : Option (Decoded Record) → ℕ → ℕ

@@ -4,6 +4,7 @@
 use Prim.Native.Nat.{ℕ, _+_}
 use mathlib.Core.Path.{_≡_}
 use mathlib.Core.Bool.{Bool, true, false, cond}
+use mathlib.Core.Option.{Option, none, some}
 use mathlib.Core.List.{List, [], _∷_, _++_}
 use Rattle.power.specs.Pages.{PageStore}
 use Rattle.power.specs.Writer.{Writer}
@@ -31,10 +32,25 @@ module _ {Page Record Mask : Type 0} (S : PageStore Page Record Mask) where
   recordsIn [] = []
   recordsIn (entry ∷ logged) = entry .1 ∷ recordsIn logged
 
-  -- the records that are to be logged: all of them, or the armed ones
-  abbrev pub loggedOnes : Bool → List Record → List Record
-  loggedOnes whileDisarmed [] = []
-  loggedOnes whileDisarmed (r ∷ records) = cond (logs S whileDisarmed r) (r ∷ loggedOnes whileDisarmed records) (loggedOnes whileDisarmed records)
+  -- the edition of the flight that is recorded, if one is
+  abbrev pub editionIf : Bool → S .Edition → Option (S .Edition)
+  editionIf true e = some e
+  editionIf false e = none
+
+  abbrev pub recordedAs : Writer S → Option (S .Edition)
+  recordedAs w = editionIf (w .assembler .recording) (w .assembler .edition)
+
+  -- one record, by whether it is to be logged: it begins a flight of its edition, or continues one of its edition, or is refused by one of
+  -- the other edition, which it neither ends nor alters; or it ends the flight
+  abbrev pub logsOne : Bool → Option (S .Edition) → Record → (Option (S .Edition) → List Record) → List Record
+  logsOne true none r rest = r ∷ rest (some (S .edition r))
+  logsOne true (some e) r rest = cond (S .joins e r) (r ∷ rest (some e)) (rest (some e))
+  logsOne false flight r rest = rest none
+
+  -- the records that are to be logged: all of them, or the armed ones, but for those of the other edition than the flight's
+  abbrev pub loggedOnes : Bool → Option (S .Edition) → List Record → List Record
+  loggedOnes whileDisarmed flight [] = []
+  loggedOnes whileDisarmed flight (r ∷ records) = logsOne (logs S whileDisarmed r) flight r (λ after. loggedOnes whileDisarmed after records)
 
   -- "boot-session flag (bit 2) on the first logged record of the power-on"
   abbrev pub markFirst : Bool → List Record → List Record
@@ -53,16 +69,12 @@ module _ {Page Record Mask : Type 0} (S : PageStore Page Record Mask) where
     pub queue : before .queue ≡ left ++ rest
     pub alive : after .powerGone ≡ false → after .queue ≡ rest
     pub cut : after .powerGone ≡ true → after .queue ≡ []
-    pub logged : recordsIn (after .logged) ≡ recordsIn (before .logged) ++ markFirst (before .writer .markDue) (loggedOnes whileDisarmed left)
-
-  -- every record may join every flight, as in version 1 of the page
-  abbrev pub AllJoin : Type 0
-  AllJoin = (e : S .Edition) (r : Record) → S .joins e r ≡ true
+    pub logged : recordsIn (after .logged) ≡ recordsIn (before .logged) ++ markFirst (before .writer .markDue) (loggedOnes whileDisarmed (recordedAs (before .writer)) left)
 
   -- so it is in drain on a writable log
   abbrev pub DrainLogs : Type 0
   DrainLogs =
-      AllJoin → (d : Device S) (limit : ℕ) (whileDisarmed armed : Bool) (succeed : ℕ) (next : Next Mask) → d .writer .writable ≡ true
+      (d : Device S) (limit : ℕ) (whileDisarmed armed : Bool) (succeed : ℕ) (next : Next Mask) → d .writer .writable ≡ true
       → MarksSettled (d .writer)
       → LoggedExactly whileDisarmed (begin S d succeed next) (drain S limit whileDisarmed armed (begin S d succeed next))
 

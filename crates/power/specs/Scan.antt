@@ -9,7 +9,7 @@ use lib.Dec.{ltb, leb, eqb}
 use lib.ListN.{length}
 use Rattle.laws.specs.Halving.{bisecting}
 use Rattle.power.specs.Pages.{Decoded, PageStore}
-use Rattle.power.specs.Reading.{ScanAnswer, foreignAnswer, Span, isBlank, pageAt}
+use Rattle.power.specs.Reading.{ScanAnswer, foreignAnswer, Span, pageAt}
 
 module _ {Page Record Mask : Type 0} (S : PageStore Page Record Mask) where
   -- the flight that a page says
@@ -33,7 +33,7 @@ module _ {Page Record Mask : Type 0} (S : PageStore Page Record Mask) where
 
   -- "The scan halves between 0 and the page count for the first blank": the pages below the point found are used
   abbrev pub usedPages : List Page → ℕ
-  usedPages log = bisecting (λ i. isBlank S (pageAt S log i)) (length log)
+  usedPages log = bisecting (λ i. S .isBlank (pageAt S log i)) (length log)
 
   -- "page 0 must decode .. else foreign"
   abbrev pub ifBegun : Option ℕ → ScanAnswer → ScanAnswer

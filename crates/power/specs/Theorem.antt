@@ -9,8 +9,8 @@ use lib.ListN.{length, replicate}
 use Rattle.power.specs.Pages.{PageStore}
 use Rattle.power.specs.Reading.{firstBlank, newestFlight, recordsOn}
 use Rattle.power.specs.Grammar.{Loose, Strict}
-use Rattle.power.specs.Claims.{Kept, OnlyAdds, ForeignLog, ScanSays, NothingWritten, SearchFinds}
-use Rattle.power.specs.Scan.{scan, find, FlightsKnown}
+use Rattle.power.specs.Claims.{Kept, OnlyAdds, ForeignLog, ScanSays, NothingWritten, SearchFinds, OneEdition}
+use Rattle.power.specs.Scan.{scan, find, FlightsKnown, flightNumber}
 use Rattle.power.specs.Life.{Device, Call, lives, unpowered, powerOn, history, AllAssumed, FlightsFit}
 
 module _ {Page Record Mask : Type 0} (S : PageStore Page Record Mask) where
@@ -25,6 +25,8 @@ module _ {Page Record Mask : Type 0} (S : PageStore Page Record Mask) where
     pub searched : ¬ ForeignLog S (d .log) → (flight : ℕ) → SearchFinds S (d .log) flight (find S (d .log) (firstBlank S (d .log)) flight)
     -- so no page that it reads is refused for want of a flight
     pub known : ¬ ForeignLog S (d .log) → FlightsKnown S (d .log) (firstBlank S (d .log))
+    -- and none has a flight that is not below the limit
+    pub below : ¬ ForeignLog S (d .log) → (i : ℕ) → i < firstBlank S (d .log) → flightNumber S (d .log) i < S .limit
 
   -- a log from which the theorem starts: of one page or more and fewer than the limit, by the loose grammar, its newest flight below the limit
   pub record Beginning (log : List Page) : Type 0 where
@@ -61,21 +63,31 @@ module _ {Page Record Mask : Type 0} (S : PageStore Page Record Mask) where
   abbrev pub erased : ℕ → List Page
   erased pages = replicate pages (S .blank)
 
+  -- the device after a life from an erased log
+  abbrev pub after : ℕ → List (Call S) → Device S
+  after pages life = lives S life (unpowered S (erased pages))
+
   -- from an erased log, the one assumption being "no unfinished page decodes"
   abbrev pub FromErased : Type 0
   FromErased =
       (pages : ℕ) → 0 < pages → pages + 2 ≤ S .limit → (life : List (Call S)) → AllAssumed S life (unpowered S (erased pages))
-      → Holds [] (lives S life (unpowered S (erased pages)))
+      → Holds [] (after pages life)
 
   -- and the log that is left is one of the strict grammar
   abbrev pub StrictFromErased : Type 0
   StrictFromErased =
       (pages : ℕ) → 0 < pages → pages + 2 ≤ S .limit → (life : List (Call S)) → AllAssumed S life (unpowered S (erased pages))
-      → Strict S (lives S life (unpowered S (erased pages)) .log)
+      → Strict S (after pages life .log)
+
+  -- so a flight has one edition
+  abbrev pub OneEditionFromErased : Type 0
+  OneEditionFromErased =
+      (pages : ℕ) → 0 < pages → pages + 2 ≤ S .limit → (life : List (Call S)) → AllAssumed S life (unpowered S (erased pages))
+      → OneEdition S (after pages life .log)
 
   -- and the records stay there, whatever comes after
   abbrev pub StayFromErased : Type 0
   StayFromErased =
-      (pages : ℕ) → 0 < pages → pages + 2 ≤ S .limit → (life after : List (Call S)) → AllAssumed S life (unpowered S (erased pages))
-      → AllAssumed S after (lives S life (unpowered S (erased pages)))
-      → OnlyAdds S (lives S life (unpowered S (erased pages)) .log) (lives S after (lives S life (unpowered S (erased pages))) .log)
+      (pages : ℕ) → 0 < pages → pages + 2 ≤ S .limit → (life more : List (Call S)) → AllAssumed S life (unpowered S (erased pages))
+      → AllAssumed S more (after pages life)
+      → OnlyAdds S (after pages life .log) (lives S more (after pages life) .log)

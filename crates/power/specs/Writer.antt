@@ -4,7 +4,7 @@ use Prim.Native.Nat.{ℕ}
 use mathlib.Core.Bool.{Bool, true, false, cond}
 use mathlib.Core.Option.{Option, none, some}
 use mathlib.Core.List.{List, [], _∷_, _++_}
-use Rattle.power.specs.Pages.{PageStore}
+use Rattle.power.specs.Pages.{PageStore, full}
 use Rattle.power.specs.Reading.{ScanAnswer}
 
 module _ {Page Record Mask : Type 0} (S : PageStore Page Record Mask) where
@@ -87,7 +87,7 @@ module _ {Page Record Mask : Type 0} (S : PageStore Page Record Mask) where
 
   -- push: the record goes into the next row, and a page that is full is finished
   abbrev pub pushed : Record → Assembler → Assembler
-  pushed r a = cond (S .full (a .rows ++ r ∷ [])) (finished (laid r a)) (laid r a)
+  pushed r a = cond (full S (a .edition) (a .rows ++ r ∷ [])) (finished (laid r a)) (laid r a)
 
   -- the last rows of a flight become a page, if there are any
   abbrev pub stopping : List Record → Assembler → Assembler
