@@ -8,7 +8,7 @@ use mathlib.Core.Logic.{inl, inr}
 use mathlib.Core.List.{List, [], _∷_, _++_, append-assoc, append-nil}
 use native.Mathlib.Omega.{arith}
 use lib.Dec.{ltb}
-use lib.ListN.{length, take, length-set}
+use lib.ListN.{length, length-append, take, length-set}
 use lib.Seq.{append-snoc, take-append-le}
 use Rattle.power.specs.Pages.{PageStore, inFlight, Packs, full}
 use Rattle.power.specs.Lawful.{Lawful}
@@ -367,7 +367,7 @@ module _ {Page Record Mask : Type 0} (S : PageStore Page Record Mask) (L : Lawfu
         mem = [];
         follows = i .follows;
         split = i .split;
-        before = rw (i .logged) (power-on (i .kept) (i .mem) (i .before) (lost-few S L (i .kept) (i .mem) (i .stands .1)));
+        before = rw (i .logged) (power-on (i .kept) (i .mem) (i .before) (omega (arith, lost-few S L (i .kept) (i .mem) (i .stands .1), length-append (i .kept) (i .mem))));
         on-flash = i .on-flash ∙ sym (append-nil (i .old ++ i .kept));
         logged = refl;
         risen = i .risen;

@@ -58,10 +58,6 @@ module _ {Page Record Mask : Type 0} (S : PageStore Page Record Mask) (L : Lawfu
   last-behind n m (k ∷ kept) x lost = last-behind (S .perPage (S .edition (k .1))) m kept x lost
 
   -- what is lost behind what was kept is as few by the last record logged
-  short-behind : (kept lost : List (ℕ × Record)) → Short lost → length lost ≤ mostLost S (kept ++ lost)
-  short-behind kept [] h = omega arith
-  short-behind kept (x ∷ lost) h = omega (arith, last-behind 0 0 kept x lost)
-
-  -- the bound of `Kept`
   pub lost-few : (kept lost : List (ℕ × Record)) → Short lost → length lost ≤ mostLost S (kept ++ lost)
-  lost-few kept lost h = omega (arith, short-behind kept lost h, length-append kept lost)
+  lost-few kept [] h = omega arith
+  lost-few kept (x ∷ lost) h = omega (arith, last-behind 0 0 kept x lost)

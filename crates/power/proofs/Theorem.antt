@@ -7,7 +7,7 @@ use mathlib.Core.Option.{Option, none, some}
 use mathlib.Core.Logic.{_⊎_, inl, inr}
 use mathlib.Core.List.{List, [], _∷_, _++_, append-nil}
 use native.Mathlib.Omega.{arith}
-use lib.ListN.{length, length-replicate}
+use lib.ListN.{length, length-replicate, length-append}
 use Rattle.power.specs.Pages.{Decoded, PageStore, Each}
 use Rattle.power.specs.Lawful.{Lawful}
 use Rattle.power.specs.Reading.{Blanks, newestFlight, recordsOn}
@@ -56,7 +56,7 @@ module _ {Page Record Mask : Type 0} (S : PageStore Page Record Mask) (L : Lawfu
   -- the power-on that lasts counts as one that is over
   kept-more : (there : List (ℕ × Record)) (past : List (List (ℕ × Record))) (old kept mem now flash : List (ℕ × Record)) → Kept S there past old
       → Short S L mem → now ≡ kept ++ mem → flash ≡ old ++ kept → Kept S there (past ++ now ∷ []) flash
-  kept-more there past old kept mem now flash k s e f = rw (f, e) (power-on kept mem k (lost-few S L kept mem s))
+  kept-more there past old kept mem now flash k s e f = rw (f, e) (power-on kept mem k (omega (arith, lost-few S L kept mem s, length-append kept mem)))
 
   -- what was logged before a call was logged after it
   fit-logged : (past : List (List (ℕ × Record))) (now more : List (ℕ × Record)) → FlightsFit S (past ++ (now ++ more) ∷ []) → FlightsFit S (past ++ now ∷ [])
