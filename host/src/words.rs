@@ -31,7 +31,7 @@ pub fn spans(numbers: &[u32]) -> Vec<String> {
     let mut spans = Vec::new();
     let mut rest = numbers;
     while let Some(&first) = rest.first() {
-        let len = rest.iter().zip(first..).take_while(|&(&number, next)| number == next).count();
+        let len = rest.iter().zip(0..).take_while(|&(number, ahead)| number.checked_sub(first) == Some(ahead)).count();
         spans.push(span(first, rest[len - 1]));
         rest = &rest[len..];
     }

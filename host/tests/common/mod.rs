@@ -28,7 +28,7 @@ pub fn record(stamp: u32) -> FlightRecord {
 
 /// A page of so many records, stamped by its flight, sequence and place.
 pub fn page(flight: u32, sequence: u32, count: u32) -> [u8; 256] {
-    let records: Vec<_> = (0..count).map(|at| record(flight * 1_000 + sequence * 5 + at)).collect();
+    let records: Vec<_> = (0..count).map(|at| record(flight.wrapping_mul(1_000).wrapping_add(sequence * 5 + at))).collect();
     encode_page(flight, sequence, &records).unwrap()
 }
 
