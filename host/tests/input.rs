@@ -92,7 +92,7 @@ fn files_that_cannot_be_read_are_trouble() {
 fn a_file_without_the_right_to_read_is_trouble() {
     use std::os::unix::fs::PermissionsExt;
     let path = file("forbidden", &[0xff; 20_480]);
-    std::fs::set_permissions(&path, std::fs::Permissions::from_mode(0)).unwrap();
+    std::fs::set_permissions(&path, std::fs::Permissions::from_mode(0o000)).unwrap();
     match std::fs::File::open(&path) {
         Err(_) => assert!(troubled(&["show", &path]).contains("cannot read")),
         Ok(_) => assert!(answered(&["show", &path]).contains("20,480 bytes"), "root may read it"),

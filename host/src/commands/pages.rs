@@ -24,10 +24,9 @@ fn run(request: &Request, out: &mut Out) -> Result<(), Stop> {
     let log = Log::of(&dump)?;
     let last = log.layout.log_page_count - 1;
     let (from, to) = (from.unwrap_or(0), to.unwrap_or(last));
-    if from.max(to) > last {
-        let refused = Refused { refusal: Refusal::Corrupt, fault: 0 };
-        return Err(Stop::Refused { refused, why: format!("log page {} lies past the log, whose last page is {last}", from.max(to)) });
-    }
+    let highest = from.max(to);
+    let past = |refused| Stop::Refused { refused, why: format!("log page {highest} lies past the log, whose last page is {last}") };
+    log.page_flight(highest).map_err(past)?;
     let rows = (from..=to).map(|index| Row::of(&log, index)).collect::<Result<Vec<_>, _>>()?;
     if request.json {
         let torn = log.torn(from..to + 1);
