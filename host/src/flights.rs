@@ -71,6 +71,11 @@ fn flight(log: &Log, number: u32) -> Result<Flight, Stop> {
     Ok(Flight { stored, records, torn, acknowledged: log.acknowledged(number)? })
 }
 
+/// How many of these flights a host has acknowledged.
+pub fn acknowledged(flights: &[Flight]) -> usize {
+    flights.iter().filter(|flight| flight.acknowledged == Some(true)).count()
+}
+
 /// The log pages of a flight.
 pub fn pages_of(stored: StoredFlight) -> Range<u32> {
     stored.start_page..stored.start_page.saturating_add(stored.pages)

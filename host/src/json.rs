@@ -171,10 +171,18 @@ fn begin(fields: &[(&'static str, Json)], out: &mut Out) -> io::Result<()> {
     out.text(&(text + "\"table\":["))
 }
 
+/// A request that is refused although the log could be read: the head alone where JSON was asked for. Hands the refusal on.
+pub fn stopped(request: &Request, dump: &Dump, log: &Log, stop: Stop, out: &mut Out) -> Result<(), Stop> {
+    if request.json {
+        Table::begin(&Head { request, dump, log, torn: &[], refused: Some(&stop) }, out)?.end()?;
+    }
+    Err(stop)
+}
+
 /// The same shape for a dump that was refused whole.
 pub fn refused(request: &Request, refused: Refused, why: &str, out: &mut Out) -> io::Result<()> {
     let none = ["capacity_bytes", "log_page_count", "scan", "ledger"].map(|name| (name, Json::Null));
-    let mut fields = vec![("command", request.command.name.into()), ("dump", request.source().name().as_str().into())];
+    let mut fields = vec![("command", request.command.name.into()), ("dump", request.source(0).name().as_str().into())];
     fields.extend(none);
     fields.extend([("torn_pages", Json::List(Vec::new())), ("refused", refusal(refused, why))]);
     begin(&fields, out)?;

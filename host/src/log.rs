@@ -21,6 +21,8 @@ pub enum Page {
     Torn(Refusal),
 }
 
+const PAST_THE_LOG: Refused = Refused { refusal: Refusal::Corrupt, fault: 0 };
+
 pub struct Log<'a> {
     pub layout: StorageLayout,
     pub scan: Scan,
@@ -51,12 +53,16 @@ impl<'a> Log<'a> {
         index < self.scan.next_page
     }
 
-    /// Where a page begins, and its bytes; a page past the log is refused 7, as the search does.
+    /// Where a page begins, and its bytes; one past the log is refused 7, as the search does.
     pub fn bytes(&self, index: u32) -> Result<(u32, &'a [u8]), Refused> {
-        let past = Refused { refusal: Refusal::Corrupt, fault: 0 };
-        let address = self.layout.log_page_address(index)?.ok_or(past)?;
-        let bytes = self.flash.image.get(address as usize..).and_then(|rest| rest.get(..FLASH_PAGE_LEN)).ok_or(past)?;
+        let address = self.layout.log_page_address(index)?.ok_or(PAST_THE_LOG)?;
+        let bytes = self.flash.image.get(address as usize..).and_then(|rest| rest.get(..FLASH_PAGE_LEN)).ok_or(PAST_THE_LOG)?;
         Ok((address, bytes))
+    }
+
+    /// A page; one past the log is refused 7.
+    pub fn page(&self, index: u32) -> Result<Page, Refused> {
+        self.pages.get(index as usize).copied().ok_or(PAST_THE_LOG)
     }
 
     /// The pages of a range, with their indices.

@@ -49,9 +49,9 @@ pub fn asked(words: Vec<OsString>) -> Result<Asked, Stop> {
 }
 
 impl Request {
-    /// The dump: a file, standard input for `-`, the sample for none.
-    pub fn source(&self) -> Source {
-        match self.words.first() {
+    /// The dump at a place: a file, standard input for `-`, the sample where there is no word.
+    pub fn source(&self, place: usize) -> Source {
+        match self.words.get(place) {
             None => Source::Sample,
             Some(word) if word == "-" => Source::Input,
             Some(word) => Source::File(word.into()),

@@ -33,6 +33,11 @@ fn cover_the_log(svg: &Element, pages: usize, columns: usize) {
     assert!(seen.iter().all(|&count| count == 1));
 }
 
+/// The boxes beside the flights that are listed; the key has the first five.
+fn listed(svg: &Element) -> Vec<&Element> {
+    svg.of_class("key").split_off(5)
+}
+
 fn numbers(svg: &Element) -> Vec<&str> {
     svg.of_class("number").iter().map(|element| element.text.as_str()).collect()
 }
@@ -57,9 +62,9 @@ fn a_foreign_and_a_falling_log_are_drawn_by_their_pages() {
     let words = |svg: &Element| svg.all().iter().map(|element| element.text.clone()).collect::<Vec<_>>().join("\n");
     let svg = drawn(&["draw", &sample("foreign")]);
     assert_eq!(["flight", "torn", "blank"].map(|class| covered(&svg, class, 16)), [2, 2, 12]);
-    assert!(words(&svg).contains("the log is foreign") && svg.of_class("next").is_empty() && svg.of_class("listed").is_empty());
+    assert!(words(&svg).contains("the log is foreign") && svg.of_class("next").is_empty() && listed(&svg).is_empty());
     let svg = drawn(&["draw", &sample("falling")]);
-    assert!(words(&svg).contains("Flights refused 7 Corrupt: flights fall at log page 2") && svg.of_class("listed").is_empty());
+    assert!(words(&svg).contains("Flights refused 7 Corrupt: flights fall at log page 2") && listed(&svg).is_empty());
     assert_eq!(numbers(&svg), ["2", "1"]);
 }
 
@@ -70,7 +75,7 @@ fn a_mebibyte_has_a_colour_and_a_number_for_each_flight() {
     let svg = drawn(&["draw", &file("draw-mebibyte", &image)]);
     cover_the_log(&svg, 4_032, 128);
     assert_eq!(["flight", "torn", "blank"].map(|class| covered(&svg, class, 128)), [2_999, 1, 1_032]);
-    let listed = svg.of_class("listed");
+    let listed = listed(&svg);
     let mut colours: Vec<_> = listed.iter().map(|element| element.get("fill")).collect();
     colours.sort();
     colours.dedup();

@@ -74,6 +74,13 @@ fn ranges() {
 }
 
 #[test]
+fn a_refused_range_has_its_log_in_json() {
+    let object = parsed(&refused(&["pages", "--json", &sample("full"), "16"], "7 Corrupt").out);
+    assert_eq!((object.get("refused").get("number").number(), object.get("log_page_count").number()), (7, 16));
+    assert_eq!(object.get("table").list(), []);
+}
+
+#[test]
 fn every_page_of_sixteen_mebibytes() {
     let mut image = flights(1 << 24, 7, 60_000);
     tear(&mut image, 59_999);

@@ -43,6 +43,7 @@ fn what_is_not_there_is_refused() {
     refused(&["records", &sample("falling"), "1"], "7 Corrupt");
     let object = parsed(&refused(&["records", "--json", &sample("full"), "3"], "12 NoSuchFlight").out);
     assert_eq!((object.get("refused").get("number").number(), object.get("table").list().len()), (12, 0));
+    assert_eq!((object.get("capacity_bytes").number(), object.get("scan").get("next_page").number()), (20_480, 16));
 }
 
 #[test]

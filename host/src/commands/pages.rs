@@ -1,10 +1,10 @@
 //! `pages`: the log page by page.
 
-use stipeflute::{Refusal, Refused};
+use stipeflute::Refused;
 
 use super::Command;
 use crate::dump::Dump;
-use crate::json::{Head, Json, Table};
+use crate::json::{self, Head, Json, Table};
 use crate::log::{Log, Page};
 use crate::out::{Out, Style};
 use crate::request::Request;
@@ -20,13 +20,15 @@ fn run(request: &Request, out: &mut Out) -> Result<(), Stop> {
     {
         return Err(request.usage("TO is below FROM"));
     }
-    let dump = Dump::open(&request.source())?;
+    let dump = Dump::open(&request.source(0))?;
     let log = Log::of(&dump)?;
     let last = log.layout.log_page_count - 1;
     let (from, to) = (from.unwrap_or(0), to.unwrap_or(last));
     let highest = from.max(to);
     let past = |refused| Stop::Refused { refused, why: format!("log page {highest} lies past the log, whose last page is {last}") };
-    log.page_flight(highest).map_err(past)?;
+    if let Err(stop) = log.page_flight(highest).map_err(past) {
+        return json::stopped(request, &dump, &log, stop, out);
+    }
     let rows = (from..=to).map(|index| Row::of(&log, index)).collect::<Result<Vec<_>, _>>()?;
     if request.json {
         let torn = log.torn(from..to + 1);
@@ -53,9 +55,8 @@ struct Row {
 impl Row {
     fn of(log: &Log, index: u32) -> Result<Row, Refused> {
         let (address, _) = log.bytes(index)?;
-        let page = log.range(index..index + 1).next().map_or(Page::Torn(Refusal::Corrupt), |(_, page)| page);
         let counts = if log.used(index) { Some(log.page_flight(index)?) } else { None };
-        Ok(Row { index, address, page, counts })
+        Ok(Row { index, address, page: log.page(index)?, counts })
     }
 
     fn state(&self) -> &'static str {

@@ -5,7 +5,7 @@ use stipeflute::{FlightRecord, Refused, record_from_page};
 use super::Command;
 use crate::dump::Dump;
 use crate::flights;
-use crate::json::{Head, Json, Table};
+use crate::json::{self, Head, Json, Table};
 use crate::log::{Log, Page};
 use crate::out::Out;
 use crate::request::Request;
@@ -44,9 +44,13 @@ const COLUMNS: [&str; 24] = [
 
 fn run(request: &Request, out: &mut Out) -> Result<(), Stop> {
     let Some(number) = request.number(1, "FLIGHT")? else { return Err(request.usage("a DUMP and a FLIGHT are needed")) };
-    let dump = Dump::open(&request.source())?;
+    let dump = Dump::open(&request.source(0))?;
     let log = Log::of(&dump)?;
-    let span = flights::pages_of(flights::one(&log, number)?.stored);
+    let flight = match flights::one(&log, number) {
+        Ok(flight) => flight,
+        Err(stop) => return json::stopped(request, &dump, &log, stop, out),
+    };
+    let span = flights::pages_of(flight.stored);
     let torn = log.torn(span.clone());
     let rows = span.flat_map(|index| rows_of(&log, index));
     if request.json {
@@ -70,8 +74,7 @@ fn run(request: &Request, out: &mut Out) -> Result<(), Stop> {
 
 /// The records of a page, none where it does not decode.
 fn rows_of(log: &Log, index: u32) -> Vec<Result<[i64; 24], Refused>> {
-    let page = log.range(index..index + 1).next();
-    let Some((_, Page::Whole(metadata))) = page else { return Vec::new() };
+    let Ok(Page::Whole(metadata)) = log.page(index) else { return Vec::new() };
     let row = |at: u32| {
         let record = record_from_page(log.bytes(index)?.1, at)?;
         Ok(cells([index, metadata.page_sequence, at], record))

@@ -4,7 +4,7 @@ use stipeflute::LedgerHeader;
 
 use super::Command;
 use crate::dump::Dump;
-use crate::flights::{self, Flight};
+use crate::flights::{self, Flight, acknowledged};
 use crate::json::{Head, Table};
 use crate::log::{Log, Page};
 use crate::out::{Out, Style};
@@ -15,7 +15,7 @@ use crate::words::{counted, grouped, refusal, span, spans};
 pub const COMMAND: Command = Command { name: "show", help: include_str!("../help/show.txt"), words: 1, json: true, run };
 
 fn run(request: &Request, out: &mut Out) -> Result<(), Stop> {
-    let dump = Dump::open(&request.source())?;
+    let dump = Dump::open(&request.source(0))?;
     let log = Log::of(&dump)?;
     let flights = flights::of(&log);
     let torn = log.torn(0..log.scan.next_page);
@@ -117,13 +117,12 @@ pub fn refused_line(stop: &Stop) -> String {
 }
 
 fn flight_table(flights: &[Flight], out: &mut Out) -> Result<(), Stop> {
-    let acknowledged = flights.iter().filter(|flight| flight.acknowledged == Some(true)).count();
     if flights.is_empty() {
         return Ok(out.line(Style::Plain, "flights   none")?);
     }
     let records: usize = flights.iter().map(|flight| flight.records as usize).sum();
     let held = format!("{} in their whole pages", counted(records, "record"));
-    out.line(Style::Plain, &format!("flights   {}, of which {acknowledged} acknowledged; {held}", flights.len()))?;
+    out.line(Style::Plain, &format!("flights   {}, of which {} acknowledged; {held}", flights.len(), acknowledged(flights)))?;
     out.text("\n")?;
     let head = ["flight", "start", "pages", "records", "torn", "acknowledged"];
     let rows: Vec<_> = flights.iter().map(row).collect();

@@ -112,7 +112,7 @@ fn runs(looks: &[Look], first: usize) -> Vec<Run> {
 }
 
 /// The fills of pages without a flight, a tile for each page.
-pub fn patterns(svg: &mut Svg, grid: &Grid) {
+fn patterns(svg: &mut Svg, grid: &Grid) {
     let (width, row, tall) = (grid.cell(), grid.row, grid.tall());
     let cross = format!("M1 1L{0} {1}M{0} 1L1 {1}", width - 1, tall - 1);
     let tile = |name: &str| format!("<pattern id=\"{name}\" width=\"{width}\" height=\"{row}\" patternUnits=\"userSpaceOnUse\">");

@@ -5,7 +5,7 @@ use super::svg::{Svg, colour};
 use super::{LEFT, RIGHT};
 use crate::commands::show::{ledger_line, refused_line, scan_lines};
 use crate::dump::Dump;
-use crate::flights::Flight;
+use crate::flights::{Flight, acknowledged};
 use crate::log::Log;
 use crate::stop::Stop;
 use crate::words::{counted, grouped, span};
@@ -39,10 +39,7 @@ pub fn above(svg: &mut Svg, dump: &Dump, log: &Log, flights: Result<&[Flight], &
 fn flights_line(flights: Result<&[Flight], &Stop>) -> String {
     match flights {
         Ok([]) => "No flight is listed.".to_string(),
-        Ok(flights) => {
-            let acknowledged = flights.iter().filter(|flight| flight.acknowledged == Some(true)).count();
-            format!("{}, of which {acknowledged} acknowledged.", counted(flights.len(), "flight"))
-        }
+        Ok(flights) => format!("{}, of which {} acknowledged.", counted(flights.len(), "flight"), acknowledged(flights)),
         Err(stop) => format!("Flights {}.", refused_line(stop)),
     }
 }
@@ -55,25 +52,29 @@ fn short(name: &str) -> String {
 
 /// What each sign means.
 fn key(svg: &mut Svg, y: usize) {
-    let cross = |stroke: &str, x: usize| format!("<path d=\"M{x} {y}m1 1l16 12m0 -12l-16 12\" stroke=\"{stroke}\"/>");
-    let signs = [
-        ("whole page, a colour for each flight", colour(0), String::new()),
-        ("torn: neither whole nor blank", "#111111".to_string(), cross("#ffffff", LEFT + 275)),
-        ("blank", "#eeeeee".to_string(), String::new()),
-        ("blank below the next page", "#ffffff".to_string(), cross("#111111", LEFT + 585)),
-        ("the scan's next page", "#eeeeee".to_string(), String::new()),
-        ("| a flight's first page", String::new(), String::new()),
-    ];
-    let places = [0, 275, 510, 585, 800, 975].map(|x| LEFT + x);
-    for (at, ((words, fill, more), x)) in signs.iter().zip(places).enumerate() {
-        if fill.is_empty() {
-            svg.put(format_args!("<path d=\"M{} {y}v14\" stroke=\"#111111\" stroke-width=\"2\"/>", x + 12));
-        } else {
-            let frame = if at == 4 { " stroke=\"#cc0000\" stroke-width=\"3\"" } else { " stroke=\"#bbbbbb\"" };
-            svg.put(format_args!("<rect x=\"{x}\" y=\"{y}\" width=\"18\" height=\"14\" fill=\"{fill}\"{frame}/>{more}"));
-        }
-        svg.text([x + 24, y + 12], 13, "", words.trim_start_matches("| "));
-    }
+    let framed = " stroke=\"#cc0000\" stroke-width=\"3\"";
+    swatch(svg, [LEFT, y], &colour(0), PLAIN, "whole page, in its flight's colour");
+    swatch(svg, [LEFT + 275, y], "#111111", PLAIN, "torn: neither whole nor blank");
+    cross(svg, [LEFT + 275, y], "#ffffff");
+    swatch(svg, [LEFT + 510, y], "#eeeeee", PLAIN, "blank");
+    swatch(svg, [LEFT + 585, y], "#ffffff", PLAIN, "blank below the next page");
+    cross(svg, [LEFT + 585, y], "#111111");
+    swatch(svg, [LEFT + 800, y], "#eeeeee", framed, "the scan's next page");
+    svg.put(format_args!("<path d=\"M{} {y}v14\" stroke=\"#111111\" stroke-width=\"2\"/>", LEFT + 987));
+    svg.text([LEFT + 999, y + 12], 13, "", "a flight's first page");
+}
+
+/// A thin frame.
+const PLAIN: &str = " stroke=\"#bbbbbb\"";
+
+/// A small box and the words beside it.
+fn swatch(svg: &mut Svg, [x, y]: [usize; 2], fill: &str, frame: &str, words: &str) {
+    svg.put(format_args!("<rect class=\"key\" x=\"{x}\" y=\"{y}\" width=\"18\" height=\"14\" fill=\"{fill}\"{frame}/>"));
+    svg.text([x + 24, y + 12], 13, "", words);
+}
+
+fn cross(svg: &mut Svg, [x, y]: [usize; 2], stroke: &str) {
+    svg.put(format_args!("<path d=\"M{x} {y}m1 1l16 12m0 -12l-16 12\" stroke=\"{stroke}\"/>"));
 }
 
 /// The flights one by one where they are few; gives where the picture ends.
@@ -83,16 +84,15 @@ pub fn below(svg: &mut Svg, top: usize, flights: Result<&[Flight], &Stop>) -> us
         return top;
     }
     if flights.len() > LISTED {
-        let words = "Each flight has a colour of its own, and its number where there is room; a browser names what is pointed at.";
+        let words =
+            "Flights that follow each other differ in colour; each has its number where there is room. A browser names what is pointed at.";
         svg.text([LEFT, top + 6], 13, "", words);
         return top + 24;
     }
     let column = (WIDTH + RIGHT) / COLUMNS;
     for (at, flight) in flights.iter().enumerate() {
         let (x, y) = (LEFT + at % COLUMNS * column, top + at / COLUMNS * 22);
-        let fill = colour(at);
-        svg.put(format_args!("<rect class=\"listed\" x=\"{x}\" y=\"{y}\" width=\"18\" height=\"14\" fill=\"{fill}\" stroke=\"#bbbbbb\"/>"));
-        svg.text([x + 24, y + 12], 13, "", &listed(flight));
+        swatch(svg, [x, y], &colour(at), PLAIN, &listed(flight));
     }
     top + flights.len().div_ceil(COLUMNS) * 22 + 12
 }

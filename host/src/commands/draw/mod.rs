@@ -21,7 +21,7 @@ const LEFT: usize = 64;
 const RIGHT: usize = 170;
 
 fn run(request: &Request, out: &mut Out) -> Result<(), Stop> {
-    let dump = Dump::open(&request.source())?;
+    let dump = Dump::open(&request.source(0))?;
     let log = Log::of(&dump)?;
     let flights = flights::of(&log);
     let grid = Grid::of(&log);

@@ -87,3 +87,29 @@ fn rgb(hue: usize, saturation: usize, light: usize) -> [usize; 3] {
         percent.clamp(0, 100) as usize * 255 / 100
     })
 }
+
+#[cfg(test)]
+mod tests {
+    use super::*;
+
+    #[test]
+    fn flights_that_follow_each_other_differ_in_colour() {
+        let colours: Vec<_> = (0..65_472).map(colour).collect();
+        assert!(colours.windows(2).all(|pair| pair[0] != pair[1]));
+        let mut first = colours[..40].to_vec();
+        first.sort();
+        first.dedup();
+        assert_eq!(first.len(), 40);
+    }
+
+    #[test]
+    fn primary_colours() {
+        assert_eq!([rgb(0, 100, 50), rgb(120, 100, 50), rgb(240, 100, 50)], [[255, 0, 0], [0, 255, 0], [0, 0, 255]]);
+        assert_eq!([rgb(77, 0, 100), rgb(60, 100, 50)], [[255, 255, 255], [255, 255, 0]]);
+    }
+
+    #[test]
+    fn marks_are_escaped() {
+        assert_eq!(escaped("a<b> & \"c\"\u{7}\u{ffff}"), "a&lt;b&gt; &amp; &quot;c&quot;??");
+    }
+}
