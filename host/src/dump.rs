@@ -13,8 +13,8 @@ use crate::words::grouped;
 /// The largest capacity.
 const LONGEST: u64 = 16_777_216;
 
-/// The sample: a bench day on a flash of 32,768 bytes, played by the proved writer (tests/sample.rs has the recipe).
-const SAMPLE: &[u8] = include_bytes!("../samples/bench_day");
+/// The sample: three power-ons on a flash of 32,768 bytes, played by the proved writer (tests/sample.rs has the recipe).
+const SAMPLE: &[u8] = include_bytes!("../samples/brown_out");
 
 pub enum Source {
     Sample,
@@ -25,7 +25,7 @@ pub enum Source {
 impl Source {
     pub fn name(&self) -> String {
         match self {
-            Source::Sample => "host/samples/bench_day (embedded)".to_string(),
+            Source::Sample => "host/samples/brown_out (embedded)".to_string(),
             Source::Input => "standard input".to_string(),
             Source::File(path) => shown(path.as_os_str()),
         }

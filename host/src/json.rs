@@ -47,8 +47,12 @@ impl From<&str> for Json {
 /// A refusal's number and name.
 impl From<Refusal> for Json {
     fn from(refusal: Refusal) -> Json {
-        Json::Object(vec![("number", u32::from(refusal.number()).into()), ("name", format!("{refusal:?}").as_str().into())])
+        Json::Object(named(refusal).into())
     }
+}
+
+fn named(refusal: Refusal) -> [(&'static str, Json); 2] {
+    [("number", u32::from(refusal.number()).into()), ("name", format!("{refusal:?}").as_str().into())]
 }
 
 impl fmt::Display for Json {
@@ -134,9 +138,7 @@ fn why(stop: &Stop) -> Json {
 }
 
 fn refusal(refused: Refused, why: &str) -> Json {
-    let Json::Object(mut fields) = Json::from(refused.refusal) else { return Json::Null };
-    fields.push(("why", why.into()));
-    Json::Object(fields)
+    Json::Object(named(refused.refusal).into_iter().chain([("why", why.into())]).collect())
 }
 
 /// A table whose rows are written as they come.

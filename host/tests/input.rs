@@ -22,8 +22,8 @@ fn help_has_an_example_that_works() {
         assert_eq!(answered(&[command, "x", "y", "-h"]), help);
         assert!(help.starts_with(&format!("usage: ./stipeflute {command} ")));
         let example = help.lines().last().unwrap().strip_prefix("Example: ./stipeflute ").unwrap();
-        let path = root().join("host/samples/bench_day");
-        let example = example.split(" > ").next().unwrap().replace("host/samples/bench_day", path.to_str().unwrap());
+        let path = root().join("host/samples/brown_out");
+        let example = example.split(" > ").next().unwrap().replace("host/samples/brown_out", path.to_str().unwrap());
         assert!(!answered(&example.split(' ').collect::<Vec<_>>()).is_empty());
     }
     let help = answered(&["--help"]);

@@ -1,13 +1,13 @@
-//! The embedded sample is what its recipe makes: a bench day, played by the proved writer on an erased flash of 32,768 bytes.
+//! The embedded sample is what its recipe makes: three power-ons, played by the proved writer on an erased flash of 32,768 bytes.
 
 mod common;
 
 use common::{acknowledge, root};
-use stipeflute::{FlightRecord, NextProgram, Operation, play};
+use stipeflute::{FlightRecord, NextProgram, Operation, decode_page, play};
 
 const CAPACITY: u32 = 32_768;
 
-/// Record n of the day: a millisecond apart, rates that swing, and the armed bit.
+/// Record n: a millisecond apart, rates that swing, and the armed bit.
 fn record(n: u32) -> FlightRecord {
     let swing = |period: u32, high: u32| {
         let at = n % period;
@@ -29,21 +29,21 @@ fn record(n: u32) -> FlightRecord {
     }
 }
 
-/// The day's script, and how many records were offered.
-struct Day {
-    script: Vec<Operation>,
+/// A script, and how many records it has offered.
+struct Script {
+    rows: Vec<Operation>,
     records: u32,
 }
 
-impl Day {
+impl Script {
     fn drain(&mut self, armed: bool, succeed: u32, next: NextProgram) {
-        self.script.push(Operation::Drain { limit: 16, record_while_disarmed: false, armed, succeed, next });
+        self.rows.push(Operation::Drain { limit: 16, record_while_disarmed: false, armed, succeed, next });
     }
 
     fn offer(&mut self, count: u32) {
         for _ in 0..count {
             self.records += 1;
-            self.script.push(Operation::Offer(record(self.records)));
+            self.rows.push(Operation::Offer(record(self.records)));
         }
     }
 
@@ -58,9 +58,9 @@ impl Day {
     /// The craft is disarmed, and what is left of the flight is written.
     fn land(&mut self) {
         self.drain(false, 9, NextProgram::Busy);
-        self.script.push(Operation::WritePending { succeed: 1, next: NextProgram::Busy });
+        self.rows.push(Operation::WritePending { succeed: 1, next: NextProgram::Busy });
         self.drain(false, 9, NextProgram::Busy);
-        self.script.push(Operation::WritePending { succeed: 1, next: NextProgram::Busy });
+        self.rows.push(Operation::WritePending { succeed: 1, next: NextProgram::Busy });
     }
 }
 
@@ -69,36 +69,50 @@ fn half() -> [u8; 256] {
     std::array::from_fn(|at| if at < 128 { 0 } else { 0xff })
 }
 
-fn morning() -> Vec<Operation> {
-    let mut day = Day { script: vec![Operation::PowerOn], records: 0 };
-    day.fly(38);
-    day.land();
-    day.fly(61);
-    day.land();
+fn three_power_ons() -> Vec<Operation> {
+    let mut script = Script { rows: vec![Operation::PowerOn], records: 0 };
+    script.fly(38);
+    script.land();
+    script.fly(61);
+    script.land();
     // flight 3: a program fails and is tried again, then the power goes in the midst of a page
-    day.script.push(Operation::PowerOn);
-    day.fly(45);
-    day.offer(10);
-    day.drain(true, 0, NextProgram::Fault(half()));
-    day.drain(true, 9, NextProgram::Busy);
-    day.offer(12);
-    day.drain(true, 1, NextProgram::Cut(half()));
-    day.script.push(Operation::PowerOn);
-    day.fly(22);
-    day.land();
-    day.fly(9);
-    day.land();
-    day.script
+    script.rows.push(Operation::PowerOn);
+    script.fly(45);
+    script.offer(10);
+    script.drain(true, 0, NextProgram::Fault(half()));
+    script.drain(true, 9, NextProgram::Busy);
+    script.offer(12);
+    script.drain(true, 1, NextProgram::Cut(half()));
+    script.rows.push(Operation::PowerOn);
+    script.fly(22);
+    script.land();
+    script.fly(9);
+    script.land();
+    script.rows
 }
 
 #[test]
 fn the_sample_is_what_its_recipe_makes() {
     let mut image = vec![0xff; CAPACITY as usize];
-    play(CAPACITY, &mut image, &morning()).unwrap();
+    play(CAPACITY, &mut image, &three_power_ons()).unwrap();
     acknowledge(&mut image, 1);
     acknowledge(&mut image, 2);
-    let kept = std::fs::read(root().join("host/samples/bench_day")).unwrap();
+    let kept = std::fs::read(root().join("host/samples/brown_out")).unwrap();
     if image != kept {
-        panic!("host/samples/bench_day is not what the recipe makes, which is now in {}", common::file("bench_day", &image));
+        panic!("host/samples/brown_out is not what the recipe makes, which is now in {}", common::file("brown_out", &image));
     }
+}
+
+#[test]
+fn a_program_fails_and_its_page_is_whole_in_the_end() {
+    let rows = three_power_ons();
+    let fails = |row: &Operation| matches!(row, Operation::Drain { next: NextProgram::Fault(_), .. });
+    let failed = rows.iter().position(fails).unwrap();
+    let mut image = vec![0xff; CAPACITY as usize];
+    let told = play(CAPACITY, &mut image, &rows[..=failed]).unwrap();
+    let page = 12_288 + 256 * told[failed].next_page as usize..;
+    let failed = &image[page.clone()][..256];
+    assert!(decode_page(failed).is_err() && failed.iter().any(|&byte| byte != 0xff));
+    let kept = std::fs::read(root().join("host/samples/brown_out")).unwrap();
+    assert_eq!(decode_page(&kept[page][..256]).unwrap().flight_id, 3);
 }
