@@ -58,7 +58,7 @@ impl Out {
     /// A table: columns as wide as their widest cell, numbers to the right, and the last column, which holds words, to the left.
     pub fn table(&mut self, head: &[&str], rows: &[(Style, Vec<String>)]) -> io::Result<()> {
         let width = |column: usize| {
-            let cells = rows.iter().filter_map(|(_, cells)| cells.get(column)).map(|cell| cell.chars().count());
+            let cells = rows.iter().filter_map(|(_, cells)| cells.get(column)).map(String::len);
             cells.chain([head[column].len()]).max().unwrap_or(0)
         };
         let widths: Vec<_> = (0..head.len()).map(width).collect();
@@ -75,11 +75,16 @@ impl Out {
 }
 
 fn aligned<'a>(cells: impl Iterator<Item = &'a str>, widths: &[usize]) -> String {
-    let mut line = String::new();
+    let mut line = String::with_capacity(120);
     for (column, (cell, &width)) in cells.zip(widths).enumerate() {
-        let gap = if column == 0 { "" } else { "  " };
-        let last = column + 1 == widths.len();
-        line += &if last { format!("{gap}{cell}") } else { format!("{gap}{cell:>width$}") };
+        if column > 0 {
+            line += "  ";
+        }
+        if column + 1 < widths.len() {
+            line.extend(std::iter::repeat_n(' ', width.saturating_sub(cell.len())));
+        }
+        line += cell;
     }
-    line.trim_end().to_string()
+    line.truncate(line.trim_end().len());
+    line
 }
