@@ -108,6 +108,21 @@ fn the_ledgers_header_is_told() {
 }
 
 #[test]
+fn pages_that_the_halving_does_not_see_are_told() {
+    let mut image = dump(20_480, &[]);
+    image[12_288 + 256 * 5..][..256].copy_from_slice(&page(1, 0, 5));
+    let text = answered(&["show", &file("unseen", &image)]);
+    assert!(
+        text.contains(
+            "scan      next page 0, next flight 1, writable\n          No page is used.\npages     1 whole, 15 blank, 0 neither\n"
+        )
+    );
+    assert!(text.ends_with(
+        "flights   none\ntorn      none among the used pages\nbeyond    not blank, though behind the scan's next page: 1 page: 5\n"
+    ));
+}
+
+#[test]
 fn a_mebibyte_of_37_flights() {
     let mut image = flights(1 << 20, 37, 3_000);
     tear(&mut image, 2_999);

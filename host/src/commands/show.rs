@@ -1,5 +1,7 @@
 //! `show`: capacity, scan, ledger, flights and torn pages.
 
+use std::io;
+
 use stipeflute::LedgerHeader;
 
 use super::Command;
@@ -59,7 +61,8 @@ fn words(dump: &Dump, log: &Log, flights: Result<&[Flight], &Stop>, torn: &[u32]
         Ok(flights) => flight_table(flights, out)?,
         Err(stop) => out.line(Style::Torn, &format!("flights   {}", refused_line(stop)))?,
     }
-    Ok(torn_lines(log, torn, out)?)
+    torn_lines(log, torn, out)?;
+    Ok(beyond_lines(log, out)?)
 }
 
 /// How many log pages are whole, blank and neither, by their bytes alone.
@@ -143,23 +146,37 @@ fn row(flight: &Flight) -> (Style, Vec<String>) {
     (style, cells)
 }
 
-/// The torn pages, as many to a line as fit.
-fn torn_lines(log: &Log, torn: &[u32], out: &mut Out) -> std::io::Result<()> {
-    if torn.is_empty() {
-        return out.line(Style::Plain, "torn      none among the used pages");
-    }
-    let mut line = format!("torn      {}:", counted(torn.len(), "page"));
-    for span in spans(torn) {
+/// Words and then pages, as many to a line as fit.
+fn listed(words: &str, pages: &[u32], out: &mut Out) -> io::Result<()> {
+    let mut line = words.to_string();
+    for span in spans(pages) {
         if line.len() + span.len() > 110 {
             out.line(Style::Torn, &line)?;
             line = " ".repeat(9);
         }
         line += &format!(" {span},");
     }
-    out.line(Style::Torn, line.trim_end_matches(','))?;
+    out.line(Style::Torn, line.trim_end_matches(','))
+}
+
+fn torn_lines(log: &Log, torn: &[u32], out: &mut Out) -> io::Result<()> {
+    if torn.is_empty() {
+        return out.line(Style::Plain, "torn      none among the used pages");
+    }
+    listed(&format!("torn      {}:", counted(torn.len(), "page")), torn, out)?;
     let blank = torn.iter().filter(|&&index| matches!(log.pages.get(index as usize), Some(Page::Blank(_)))).count();
     if blank > 0 {
         out.line(Style::Torn, &format!("          of these blank, below the scan's page: {blank}"))?;
     }
     Ok(())
+}
+
+/// The pages from the scan's next page on that are not blank: those that the halving did not see.
+fn beyond_lines(log: &Log, out: &mut Out) -> io::Result<()> {
+    let used = |&(_, page): &(u32, Page)| !matches!(page, Page::Blank(_));
+    let beyond: Vec<_> = log.range(log.scan.next_page..log.layout.log_page_count).filter(used).map(|(index, _)| index).collect();
+    if beyond.is_empty() {
+        return Ok(());
+    }
+    listed(&format!("beyond    not blank, though behind the scan's next page: {}:", counted(beyond.len(), "page")), &beyond, out)
 }
