@@ -34,11 +34,11 @@ rowReply wanted old answer = replyOf (rowed wanted (length old) answer)
 abbrev pub rowAfter : ℕ → List ℕ → Answer (List ℕ) → List ℕ
 rowAfter wanted old answer = leaves old (rowed wanted (length old) answer)
 
--- an answer that is held as a refusal's number, "0 where there is none", beside the value
+-- an answer that is held as a refusal's number beside the value, 0 where nothing is refused
 abbrev pub heldAs : {A : Type 0} → ℕ → A → Answer A
 heldAs number value = cond (eqb number 0) (gives value) (refuses number 0)
 
--- a flag that is handed in: "flags are u8, not bool, since C may pass 2"
+-- a flag that is handed in: C may pass any byte, and every byte but 0 is true
 abbrev pub isSet : ℕ → Bool
 isSet flag = not (eqb flag 0)
 

@@ -75,7 +75,7 @@ stepOf kind address value =
     cond (eqb kind 0) (Mark.EraseLedger address)
     (cond (eqb kind 1) (Mark.ProgramHeader address) (cond (eqb kind 2) (Mark.ProgramBit address value) Mark.Done))
 
--- "Option is two numbers"
+-- an Option is a flag and a number
 abbrev pub recordingIf : Bool → ℕ → Recording
 recordingIf true flight = Recorded.Flight flight
 recordingIf false flight = Recorded.Nothing

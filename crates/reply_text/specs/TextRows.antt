@@ -17,7 +17,7 @@ use Rattle.reply_log.specs.LogRows.{storedRow}
 
 -- ---- the list
 
--- the list, or its refusal: "a refusal's number and fault byte, 0 where there is none"
+-- the list, or its refusal: a number and a fault byte, which are 0 where nothing is refused
 abbrev pub toldList : Unsynced → Answer Unsynced
 toldList u = cond (eqb (u .refused) 0) (gives u) (refuses (u .refused) (u .fault))
 
@@ -31,7 +31,7 @@ listRow u = (u .count % 256 ∷ flagOf (u .more) ∷ []) ++ joined (map storedRo
 unfoldable pub textRow : ℕ → List ℕ → List ℕ
 textRow room text = leBytes 4 (length text) ++ padded room 0 text
 
--- lines, or their refusal, as they are held: "a refusal's number, 0 where there is none, and no text"
+-- lines, or their refusal, as they are held: a refusal's number, 0 where there is none, and then no text
 abbrev pub toldLines : Lines → Answer Lines
 toldLines lines = heldAs (lines .refused) lines
 

@@ -155,7 +155,7 @@ unfoldable pub onScript : {A : Type 0} → ℕ → ℕ → List ℕ → ℕ → 
 onScript capacity imageLength script outputLength rest =
     onImage capacity imageLength (must (isScript script) badLength (must (eqb outputLength (rowsIn script * 40)) badLength rest))
 
--- what the player answers, and the image and the output that it leaves: "image and output untouched" where it is refused
+-- what the player answers, and the image and the output that it leaves, which stay as they were where it is refused
 abbrev pub playTold : ℕ → List ℕ → List ℕ → List ℕ → Answer (Unit {0})
 playTold capacity image script output = onScript capacity (length image) script (length output) (gives tt)
 
