@@ -2,12 +2,13 @@
 use Prim.Native.Nat.{ℕ, _+_, _≤_}
 use mathlib.Core.Path.{_≡_, refl, sym, ap, _∙_, subst}
 use mathlib.Core.Bool.{Bool, true, false, cond, false≢true}
-use mathlib.Core.Option.{none}
-use mathlib.Core.Logic.{_↔_, inl}
+use mathlib.Core.Option.{none, Option, some}
+use mathlib.Core.Logic.{_↔_, inl, _⊎_, inr}
 use mathlib.Core.List.{List, [], _∷_, _++_, append-nil}
 use native.Mathlib.Omega.{arith}
 use lib.Dec.{ltb}
 use lib.ListN.{length}
+use Rattle.power.specs.Reading.{Torn, pageAt}
 use Rattle.power.specs.Writer as Model
 use Rattle.power.specs.Life.{Call, Device}
 use Rattle.power.specs.Life as Life
@@ -41,7 +42,7 @@ use Rattle.rig.specs.Rig.{unpowered, played, imageAfter, playsImage, afterPlay}
 use Rattle.rig.specs.declared.Bench.{Bench}
 use Rattle.log_lives.specs.Lives.{EachOfLife, callsOf, lifeFrom, lifeOf, lifeAfter, deviceBefore, deviceAfter}
 use Rattle.log_lives.specs.Theorem.{Plays, logOf, loggedIn, benchAfter}
-use Rattle.log_lives.specs.Boards.{Board, onFlash, SegmentsOfImage, NoPowerOn, OneTornPage, NoneTornIfFinished, TornEndsPowerOn, SameLoggedNear}
+use Rattle.log_lives.specs.Boards.{Board, onFlash, SegmentsOfImage, NoPowerOn, OneTornPage, NoneTornIfFinished, TornEndsPowerOn, SameLoggedNear, TornIsLeft}
 use Rattle.log_lives.specs.Boards.{ImagesExplained, ImagesPaired, acceptedIn, Heeds, OffersHeeded, LoggedBut31, StreamsOfImages}
 use Rattle.log_lives.specs.Boards.{byBytes, isShut, explainedImages?, ImagesAreTested, SameLoggedPasses, ShutBoards}
 use Rattle.log_lives.proofs.Lives.{deviceOf, Fine, goes, fine-after}
@@ -202,6 +203,73 @@ module _ (c : ℕ) (image script output longer output′ : List ℕ) (p : Plays 
             (parts .1)
             (subst (λ (log : List (List ℕ)). AllFinished real calls (Life.lives real (lifeOf c image script) (Life.unpowered real log))) (b .erased) u),
       )
+
+  -- the device where the other script ends
+  device-before : Life.lives real (lifeOf c image script) blank ≡ deviceAfter c image script
+  device-before = ap (λ (log : List (List ℕ)). Life.lives real (lifeOf c image script) (Life.unpowered real log)) (sym (b .erased))
+
+  -- where one call more is made
+  left-by : (x : Call real) → calls ≡ x ∷ [] → (i : ℕ) → Torn real (pageAt real (logOf c (afterPlay c image longer output′)) i)
+      → Torn real (pageAt real (logOf c (afterPlay c image script output)) i)
+      ⊎ ((page : List ℕ) × (_≡_ {A = Option (List ℕ × List ℕ)} (Theory.unfinishedIn real x (deviceAfter c image script))
+      (some (page, pageAt real (logOf c (afterPlay c image longer output′)) i))))
+  left-by x q i t =
+      go
+      (Torn.torn-is-left real real-lawful (pagesIn c) (some-pages c (p .valid)) (few-pages c (p .valid)) (lifeOf c image script) x (parts .0) (one .0) i
+      (subst (λ (log : List (List ℕ)). Torn real (pageAt real log i)) (sym log-one) t))
+    where
+      one : Life.AllAssumed real (x ∷ []) (Life.lives real (lifeOf c image script) blank)
+      one = subst (λ (l : List (Call real)). Life.AllAssumed real l (Life.lives real (lifeOf c image script) blank)) q (parts .1)
+
+      log-one : Life.call real x (Life.lives real (lifeOf c image script) blank) .log ≡ logOf c (afterPlay c image longer output′)
+      log-one = ap (λ (l : List (Call real)). Life.lives real l (Life.lives real (lifeOf c image script) blank) .log) (sym q) ∙ log-after
+
+      go : Torn real (pageAt real (Life.lives real (lifeOf c image script) blank .log) i)
+          ⊎ ((page : List ℕ) × (_≡_ {A = Option (List ℕ × List ℕ)} (Theory.unfinishedIn real x (Life.lives real (lifeOf c image script) blank))
+          (some (page, pageAt real (Life.call real x (Life.lives real (lifeOf c image script) blank) .log) i))))
+          → Torn real (pageAt real (logOf c (afterPlay c image script output)) i)
+          ⊎ ((page : List ℕ) × (_≡_ {A = Option (List ℕ × List ℕ)} (Theory.unfinishedIn real x (deviceAfter c image script))
+          (some (page, pageAt real (logOf c (afterPlay c image longer output′)) i))))
+      go (inl s) = inl (subst (λ (log : List (List ℕ)). Torn real (pageAt real log i)) log-before s)
+      go (inr s) =
+          inr (
+            s .0,
+            ap (Theory.unfinishedIn real x) (sym device-before) ∙ s .1
+                ∙ ap {B = Option (List ℕ × List ℕ)} (λ (log : List (List ℕ)). some (s .0, pageAt real log i)) log-one,
+          )
+
+  -- where none is, the log is as it was
+  left-as : Life.lives real calls (Life.lives real (lifeOf c image script) blank) .log ≡ Life.lives real (lifeOf c image script) blank .log → (i : ℕ)
+      → Torn real (pageAt real (logOf c (afterPlay c image longer output′)) i) → Torn real (pageAt real (logOf c (afterPlay c image script output)) i)
+  left-as q i t = subst (λ (log : List (List ℕ)). Torn real (pageAt real log i)) (sym log-after ∙ q ∙ log-before) t
+
+pub torn-is-left : TornIsLeft
+torn-is-left c image script output longer output′ (offers r) p b e i t =
+    inl (left-as c image script output longer output′ p b (lifeAfter c image script (offers r ∷ [])) (longer-life c image script longer (offers r ∷ []) e)
+    (go (ltb (benchAfter c image script .queue .held) 31)) i t)
+  where
+    go : (z : Bool)
+        → Life.lives real (cond z (Life.offers r ∷ []) [] ++ []) (Life.lives real (lifeOf c image script) (Life.unpowered real (erased real (pagesIn c)))) .log
+        ≡ Life.lives real (lifeOf c image script) (Life.unpowered real (erased real (pagesIn c))) .log
+    go true = refl
+    go false = refl
+torn-is-left c image script output longer output′ (drains limit whileDisarmed armed succeed next keep) p b e i t =
+    left-by c image script output longer output′ p b (lifeAfter c image script (drains limit whileDisarmed armed succeed next keep ∷ []))
+    (longer-life c image script longer (drains limit whileDisarmed armed succeed next keep ∷ []) e)
+    (Life.drains limit whileDisarmed armed succeed (asNext next keep)) refl i t
+torn-is-left c image script output longer output′ (writes succeed next keep) p b e i t =
+    left-by c image script output longer output′ p b (lifeAfter c image script (writes succeed next keep ∷ []))
+    (longer-life c image script longer (writes succeed next keep ∷ []) e) (Life.writes succeed (asNext next keep)) refl i t
+torn-is-left c image script output longer output′ powers p b e i t =
+    inl (left-as c image script output longer output′ p b (lifeAfter c image script (powers ∷ [])) (longer-life c image script longer (powers ∷ []) e) refl i t)
+torn-is-left c image script output longer output′ (recovers page flight writable) p b e i t =
+    inl (left-as c image script output longer output′ p b (lifeAfter c image script (recovers page flight writable ∷ []))
+    (longer-life c image script longer (recovers page flight writable ∷ []) e) refl i t)
+torn-is-left c image script output longer output′ resets p b e i t =
+    inl (left-as c image script output longer output′ p b (lifeAfter c image script (resets ∷ [])) (longer-life c image script longer (resets ∷ []) e) refl i t)
+torn-is-left c image script output longer output′ (flushes buffered clock) p b e i t =
+    inl (left-as c image script output longer output′ p b (lifeAfter c image script (flushes buffered clock ∷ []))
+    (longer-life c image script longer (flushes buffered clock ∷ []) e) refl i t)
 
 pub none-torn-if-finished : NoneTornIfFinished
 none-torn-if-finished c image script output longer output′ more p b e u =

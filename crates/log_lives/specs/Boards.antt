@@ -1,20 +1,22 @@
 -- What may be concluded from the images of one board and of two: into what a log splits, where torn pages come from, in what two logs may differ. Of
 -- the bytes that rig leaves; the same laws over abstract pages are power's Segments, Torn, Boards and Offers. proofs/Boards shows each statement.
 use Prim.Native.Nat.{ℕ, suc, _+_, _≤_, _<_}
+use mathlib.Core.Option.{some}
 use mathlib.Core.Path.{_≡_}
 use mathlib.Core.Bool.{Bool, true, false, not}
-use mathlib.Core.Logic.{_↔_}
+use mathlib.Core.Logic.{_↔_, _⊎_}
 use mathlib.Core.List.{List, [], _∷_, _++_}
 use lib.ListN.{length}
+use Rattle.log_views.specs.Views.{asNext}
 use Rattle.power.specs.Pages.{Each}
 use Rattle.power.specs.Life.{Call, Device}
 use Rattle.power.specs.Life as Life
-use Rattle.power.specs.Reading.{recordsOn}
+use Rattle.power.specs.Reading.{recordsOn, Torn, pageAt}
 use Rattle.power.specs.Scan.{scan}
 use Rattle.power.specs.Segments.{splitBy, filled, starts, PlainOffers, KeptPart, Segmented}
 use Rattle.power.specs.Boards.{Near, NearAll, seen, eachSeen, Aligned, both?, none?, aligned?, segmentsOf, Explained, ShutExplained}
 use Rattle.power.specs.Offers.{accepted, SettingIs, AllLoggedBut, Heeded, unflown}
-use Rattle.power.specs.Torn.{tornIn, AllFinished, MarkAfterTorn}
+use Rattle.power.specs.Torn.{tornIn, AllFinished, MarkAfterTorn, unfinishedIn}
 use Rattle.words.specs.Words.{sameBytes}
 use Rattle.blackbox.specs.Record.{recordBytes}
 use Rattle.blackbox.specs.declared.FlightRecord.{FlightRecord}
@@ -70,7 +72,28 @@ OneTornPage =
     → TornOnce (logOf capacity (afterPlay capacity image script output)) (logOf capacity (afterPlay capacity image longer output′))
     (benchAfter capacity image longer .writer)
 
--- A TORN PAGE COMES FROM AN UNFINISHED PROGRAM: where a script goes on and none of its further programs is cut and none fails, no page is torn that was
+-- a drain or a write_pending left a program unfinished, cut or failed, and this in the page's place
+abbrev pub LeavesUnfinished : Operation → Device real → List ℕ → Type 0
+LeavesUnfinished (offers r) d left = ⊥
+LeavesUnfinished (drains limit whileDisarmed armed succeed next keep) d left =
+    (page : List ℕ) × (unfinishedIn real (Life.drains limit whileDisarmed armed succeed (asNext next keep)) d ≡ some (page, left))
+LeavesUnfinished (writes succeed next keep) d left = (page : List ℕ) × (unfinishedIn real (Life.writes succeed (asNext next keep)) d ≡ some (page, left))
+LeavesUnfinished powers d left = ⊥
+LeavesUnfinished (recovers page flight writable) d left = ⊥
+LeavesUnfinished resets d left = ⊥
+LeavesUnfinished (flushes buffered clock) d left = ⊥
+
+-- A TORN PAGE IS WHAT AN UNFINISHED PROGRAM LEFT: over one operation more, each torn page was torn before it, or is what the program left that the operation
+-- did not finish
+abbrev pub TornIsLeft : Type 0
+TornIsLeft =
+    (capacity : ℕ) (image script output longer output′ : List ℕ) (o : Operation) → Plays capacity image script output
+    → Board capacity image longer output′ → operations longer ≡ operations script ++ o ∷ [] → (i : ℕ)
+    → Torn real (pageAt real (logOf capacity (afterPlay capacity image longer output′)) i)
+    → Torn real (pageAt real (logOf capacity (afterPlay capacity image script output)) i)
+    ⊎ LeavesUnfinished o (deviceAfter capacity image script) (pageAt real (logOf capacity (afterPlay capacity image longer output′)) i)
+
+-- NONE WHERE ALL FINISHED: where a script goes on and none of its further programs is cut and none fails, no page is torn that was
 -- not torn before
 abbrev pub NoneTornIfFinished : Type 0
 NoneTornIfFinished =

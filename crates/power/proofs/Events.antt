@@ -6,20 +6,21 @@ use mathlib.Core.Bool.{Bool, true, false, cond, false≢true}
 use mathlib.Core.Option.{some}
 use mathlib.Core.Logic.{inl, inr}
 use mathlib.Core.List.{List, [], _∷_, _++_, append-assoc, append-nil}
+use native.Mathlib.Decide.{ℕ-discrete}
 use native.Mathlib.Omega.{arith}
 use lib.Dec.{ltb}
 use lib.ListN.{length, length-append, take, length-set}
-use lib.Seq.{append-snoc, take-append-le}
+use lib.Seq.{append-snoc, take-append-le, getD-set-other}
 use Rattle.power.specs.Pages.{PageStore, inFlight, Packs, full}
 use Rattle.power.specs.Lawful.{Lawful}
-use Rattle.power.specs.Reading.{Blanks}
+use Rattle.power.specs.Reading.{Blanks, Torn, pageAt}
 use Rattle.power.specs.Grammar.{Ending, unused, ended, frayed, foreign, newest, Sound, LooseRule, Follows}
 use Rattle.power.specs.Claims.{power-on, OnlyAdds}
 use Rattle.power.specs.Scan.{scan}
 use Rattle.power.specs.Calls.{programmedCell, programmedAt}
 use Rattle.power.specs.Life.{Undecoded}
 use Rattle.power.specs.Torn.{tornIn}
-use Rattle.power.proofs.Used.{length-snoc, unused-none, follows-map}
+use Rattle.power.proofs.Used.{length-snoc, unused-none, follows-map, none-some}
 use Rattle.power.proofs.Scan.{verdictOf, scan-is}
 use Rattle.power.proofs.Invariant.{Ground, Phase, off, idle, filling, holding, Tail, tail-of-blanks, Filling, Holding, Begun, Stands}
 use Rattle.power.proofs.Invariant.{Inv, base-long, turned, passed, heldContent, held-whole, held-strict, next-sound, further-newest}
@@ -223,6 +224,19 @@ module _ {Page Record Mask : Type 0} (S : PageStore Page Record Mask) (L : Lawfu
           torn-not S L (programmedAt S l nx page (S .clean)) (i .base) rest page nx written-is (i .stands .here) (tail-is .2) (heldContent S L G i) (held-whole S L G i),
           torn-at-least S L l (i .base) rest cell nx log-is (i .stands .here) (tail-is .2),
         )
+
+    -- the page that was written is whole, so what is torn elsewhere was torn before
+    pub keep-left-whole : (j : ℕ) → Torn S (pageAt S (programmedAt S l nx page (S .clean)) j) → Torn S (pageAt S l j)
+    keep-left-whole j t = go (ℕ-discrete j nx)
+      where
+        go : Dec (j ≡ nx) → Torn S (pageAt S l j)
+        go (yes e) =
+            absurd (none-some (t .0)
+            (ap (S .decode)
+            (ap (λ (k : ℕ). pageAt S (programmedAt S l nx page (S .clean)) k) e
+            ∙ cell-is S L (programmedAt S l nx page (S .clean)) (i .base) rest page page nx (S .clean) written-is (i .stands .here))
+            ∙ held-whole S L G i))
+        go (no e) = rw (getD-set-other l nx j (programmedCell S l nx page (S .clean)) (S .blank) e) at t
 
     pub keep-torn-failed : (keep : Mask) (n : ℕ) → tornIn S (take nx l) ≤ n
         → (tornIn S (programmedAt S l nx page keep) ≤ suc n) × (tornIn S (take nx (programmedAt S l nx page keep)) ≤ n)

@@ -2,26 +2,29 @@
 -- A flight that begins is below the limit, either because the life is assumed to have no other or because the log has room for few.
 -- Assumes nothing.
 use Prim.Native.Nat.{ℕ, zero, suc, _+_, _≤_, _<_}
-use mathlib.Core.Path.{_≡_, refl, ap, _∙_}
+use mathlib.Core.Path.{_≡_, refl, ap, _∙_, sym}
 use mathlib.Core.Bool.{Bool, true, false, cond, false≢true}
 use mathlib.Core.Option.{Option, none, some}
-use mathlib.Core.Logic.{_⊎_}
+use mathlib.Core.Logic.{_⊎_, inl, inr}
 use mathlib.Core.List.{List, [], _∷_, _++_, append-assoc, append-nil}
+use native.Mathlib.Decide.{ℕ-discrete}
 use native.Mathlib.Omega.{arith}
-use lib.Dec.{ltb}
 use borrow.Author.Tests.{ltb-true}
+use lib.Seq.{getD-set-same, getD-set-other}
+use lib.Dec.{ltb}
 use lib.ListN.{length}
+use Rattle.power.specs.Reading.{Torn, pageAt}
 use Rattle.power.specs.Pages.{PageStore, Each, full}
 use Rattle.power.specs.Lawful.{Lawful}
 use Rattle.power.specs.Claims.{OnlyAdds}
 use Rattle.power.specs.Writer.{Assembler, Writer, pushed, stored, withAssembler, begun, taken, takenRecord}
-use Rattle.power.specs.Calls.{Next, busy, fault, cut, Pass, Step, goes-on, ends, program, programIfRoom, putPage, withWriter}
+use Rattle.power.specs.Calls.{Next, busy, fault, cut, Pass, Step, goes-on, ends, program, programIfRoom, putPage, withWriter, programmedAt, programmedCell}
 use Rattle.power.specs.Life.{Undecoded}
 use Rattle.power.proofs.Used.{none-some}
 use Rattle.power.proofs.Invariant.{Ground, Phase, off, idle, filling, holding, Inv, settle}
 use Rattle.power.proofs.Adds.{adds-none, adds-then}
 use Rattle.power.proofs.TornCount.{Tears, tears-none, tears-then, tears-as}
-use Rattle.power.proofs.Events.{wrote, pushedPhase, keep-written, keep-failed, keep-adds, keep-push, keep-stop, start-filling}
+use Rattle.power.proofs.Events.{wrote, pushedPhase, keep-written, keep-failed, keep-adds, keep-push, keep-stop, start-filling, keep-left-whole}
 use Rattle.power.proofs.Events.{keep-torn-written, keep-torn-calm, keep-torn-failed, keep-torn-ends, keep-torn-left, keep-front}
 
 pub each-left : {A : Type 0} (P : A → Type 0) (xs ys : List A) → Each P (xs ++ ys) → Each P xs
@@ -165,15 +168,15 @@ module _ {Page Record Mask : Type 0} (S : PageStore Page Record Mask) (L : Lawfu
     pub keeps-none : {p : Pass S} → Good p → Keeps p p
     keeps-none {p} h = record { good = h; adds = adds-none S L (p .log); tears = tears-none S L p }
 
-    pub keeps-then : {p q r : Pass S} → Keeps p q → Keeps q r → Keeps p r
-    keeps-then a b = record { good = b .good; adds = adds-then S L (a .adds) (b .adds); tears = tears-then S L (a .tears) (b .tears) }
+    pub keeps-then : {p q r : Pass S} → q .unfinished ≡ p .unfinished → Keeps p q → Keeps q r → Keeps p r
+    keeps-then e a b = record { good = b .good; adds = adds-then S L (a .adds) (b .adds); tears = tears-then S L e (a .tears) (b .tears) }
 
     -- no page waits and none is ready
     abbrev pub Clear : Writer S → Type 0
     Clear w = (w .writable ≡ true) × (w .waiting ≡ none) × (w .assembler .ready ≡ none)
 
     abbrev pub StepKeeps : Pass S → Step S → Type 0
-    StepKeeps p (goes-on q) = Keeps p q × Clear (q .writer) × (q .queue ≡ p .queue)
+    StepKeeps p (goes-on q) = Keeps p q × Clear (q .writer) × (q .queue ≡ p .queue) × (q .unfinished ≡ p .unfinished)
     StepKeeps p (ends q) = Undecoded S (q .unfinished) → Keeps p q
 
     -- the writer is gone, and with it where it stood
@@ -208,6 +211,26 @@ module _ {Page Record Mask : Type 0} (S : PageStore Page Record Mask) (L : Lawfu
       waits-good : Good waits
       waits-good = record { inv = i; sane = (refl, refl, hm); fits = fits; small = small }
 
+      -- a program that doesn't finish changes one page, and says what it left there
+      abbrev leaving : Mask → List Page
+      leaving keep = programmedAt S (p .log) (v .nextPage) page keep
+
+      abbrev Left : Mask → ℕ → Type 0
+      Left keep j =
+          (x : Page) × (_≡_ {A = Option (Page × Page)} (some (page, programmedCell S (p .log) (v .nextPage) page keep)) (some (x, pageAt S (leaving keep) j)))
+
+      left-torn : (keep : Mask) → v .nextPage < length (p .log) → (j : ℕ) → Torn S (pageAt S (leaving keep) j) → Torn S (pageAt S (p .log) j) ⊎ Left keep j
+      left-torn keep inside j t = go (ℕ-discrete j (v .nextPage))
+        where
+          here : j ≡ v .nextPage → programmedCell S (p .log) (v .nextPage) page keep ≡ pageAt S (leaving keep) j
+          here e =
+              sym (ap (λ (k : ℕ). pageAt S (leaving keep) k) e
+              ∙ getD-set-same (p .log) (v .nextPage) (programmedCell S (p .log) (v .nextPage) page keep) (S .blank) inside)
+
+          go : Dec (j ≡ v .nextPage) → Torn S (pageAt S (p .log) j) ⊎ Left keep j
+          go (yes e) = inr (page, ap {B = Option (Page × Page)} (λ (c : Page). some (page, c)) (here e))
+          go (no e) = inl (rw (getD-set-other (p .log) (v .nextPage) j (programmedCell S (p .log) (v .nextPage) page keep) (S .blank) e) at t)
+
       program-keeps : (g : ℕ) (z : Next Mask) → ltb (v .nextPage) (length (p .log)) ≡ true → StepKeeps waits (program S g z page waits)
       program-keeps (suc g) z h =
           let inside = ltb-true (v .nextPage) (length (p .log)) h in (
@@ -227,9 +250,11 @@ module _ {Page Record Mask : Type 0} (S : PageStore Page Record Mask) (L : Lawfu
                         record { at-most = omega (arith, w .0); below = λ a. w .1; clear = λ a b. w .0; ends = keep-torn-ends S L G i inside n (f .below refl) };
                     calm = λ u. (u, keep-torn-calm S L G i inside);
                     front = λ k u. (keep-front S L G i inside (S .clean) k (u refl), λ a. omega (arith, u refl));
+                    left = λ u j t. inl (keep-left-whole S L G i inside j t);
                   };
             },
             (refl, refl, refl),
+            refl,
             refl,
           )
       program-keeps zero busy h = λ un. keeps-none waits-good
@@ -245,6 +270,7 @@ module _ {Page Record Mask : Type 0} (S : PageStore Page Record Mask) (L : Lawfu
                       record { at-most = w .0; below = λ a. w .1; clear = λ a b. absurd (none-some b refl); ends = keep-torn-left S L G i inside keep n (f .below refl) };
                   calm = λ u. absurd (none-some u refl);
                   front = λ k u. (keep-front S L G i inside keep k (u refl), u);
+                  left = λ u j t. left-torn keep inside j t;
                 };
           }
       program-keeps zero (cut keep) h = λ un.
@@ -264,6 +290,7 @@ module _ {Page Record Mask : Type 0} (S : PageStore Page Record Mask) (L : Lawfu
                       };
                   calm = λ u. absurd (none-some u refl);
                   front = λ k u. (keep-front S L G i inside keep k (u refl), λ a. absurd (false≢true a));
+                  left = λ u j t. left-torn keep inside j t;
                 };
           }
 
@@ -275,9 +302,11 @@ module _ {Page Record Mask : Type 0} (S : PageStore Page Record Mask) (L : Lawfu
           step false h = rw h (λ un. keeps-none waits-good)
 
     -- the same from a pass with the same log and queue
-    pub step-as : (p q : Pass S) (t : Step S) → q .log ≡ p .log → q .queue ≡ p .queue → Tears S L p q → StepKeeps q t → StepKeeps p t
-    step-as p q (goes-on r) e d x k = (record { good = k .0 .good; adds = rw e at (k .0 .adds); tears = tears-then S L x (k .0 .tears) }, k .1, k .2 ∙ d)
-    step-as p q (ends r) e d x k = λ un. record { good = (k un) .good; adds = rw e at ((k un) .adds); tears = tears-then S L x ((k un) .tears) }
+    pub step-as : (p q : Pass S) (t : Step S) → q .log ≡ p .log → q .queue ≡ p .queue → q .unfinished ≡ p .unfinished → Tears S L p q → StepKeeps q t
+        → StepKeeps p t
+    step-as p q (goes-on r) e d u x k =
+        (record { good = k .0 .good; adds = rw e at (k .0 .adds); tears = tears-then S L u x (k .0 .tears) }, k .1, k .2 ∙ d, k .3 ∙ u)
+    step-as p q (ends r) e d u x k = λ un. record { good = (k un) .good; adds = rw e at ((k un) .adds); tears = tears-then S L u x ((k un) .tears) }
 
     -- the page that was ready waits
     pub fetch-tears : (p : Pass S) (v : Writer S) (page : Page) (r : Bool) (rows : List Record) (m : Bool)
@@ -290,12 +319,12 @@ module _ {Page Record Mask : Type 0} (S : PageStore Page Record Mask) (L : Lawfu
     pub put-keeps : (p : Pass S) (v : Writer S) (waiting ready : Option Page) (r : Bool) (rows : List Record) (m : Bool)
         → Good (withWriter S (shaped true waiting ready r rows m v) p)
         → StepKeeps (withWriter S (shaped true waiting ready r rows m v) p) (putPage S (withWriter S (shaped true waiting ready r rows m v) p))
-    put-keeps p v none none r rows m h = (keeps-none h, (refl, refl, refl), refl)
+    put-keeps p v none none r rows m h = (keeps-none h, (refl, refl, refl), refl, refl)
     put-keeps p v none (some page) r rows m h =
         let e = h .sane .0 in
         rw e
         (step-as (withWriter S (shaped true none (some page) r [] m v) p) (withWriter S (shaped true (some page) none r [] m v) p)
-        (programIfRoom S (p .succeed) (p .next) page (withWriter S (shaped true (some page) none r [] m v) p)) refl refl (fetch-tears p v page r [] m)
+        (programIfRoom S (p .succeed) (p .next) page (withWriter S (shaped true (some page) none r [] m v) p)) refl refl refl (fetch-tears p v page r [] m)
         (room-keeps p v page r m (h .sane .1) (h .inv) (h .fits) (h .small) (p .succeed) (p .next)))
     put-keeps p v (some page) ready r rows m h =
         let e = h .sane .0 in

@@ -1,16 +1,18 @@
 -- Torn pages, call by call through a power-on. Assumes nothing.
 use Prim.Native.Nat.{ℕ, _+_, _≤_, _<_}
+use mathlib.Core.Option.{some}
 use mathlib.Core.Path.{_≡_, refl, sym, ap, _∙_}
-use mathlib.Core.Logic.{inr}
+use mathlib.Core.Logic.{inr, _⊎_, inl}
 use mathlib.Core.List.{List, [], _∷_, append-nil}
 use native.Mathlib.Omega.{arith}
 use lib.ListN.{take, drop, take-append-drop}
+use Rattle.power.specs.Reading.{Torn, pageAt}
 use Rattle.power.specs.Pages.{PageStore}
 use Rattle.power.specs.Lawful.{Lawful}
 use Rattle.power.specs.Calls.{drain}
 use Rattle.power.specs.Life.{Device, Call, offers, drains, writes, powers, begin, powerOn, call, lives, unpowered, Assumed, AllAssumed}
 use Rattle.power.specs.Theorem.{erased}
-use Rattle.power.specs.Torn.{tornIn, NoPowerOn, Finished, AllFinished, TornOnce, AtMostOneTorn, NoneTornIfFinished}
+use Rattle.power.specs.Torn.{tornIn, NoPowerOn, Finished, AllFinished, TornOnce, AtMostOneTorn, NoneTornIfFinished, unfinishedIn, TornIsLeft}
 use Rattle.power.proofs.Invariant.{Ground}
 use Rattle.power.proofs.TornCount.{torn-append, Few, Under}
 use Rattle.power.proofs.Turns.{drain-keeps, write-keeps}
@@ -45,6 +47,15 @@ module _ {Page Record Mask : Type 0} (S : PageStore Page Record Mask) (L : Lawfu
         drain-keeps S L G (d .past) (d .now) l wd armed (begin S d g z) (begins S L G d g z h) a (why S L G d (drain S l wd armed (begin S d g z)) b) .tears .calm u .1
     call-calm (writes g z) d a b h u = write-keeps S L G (d .past) (d .now) (begin S d g z) (begins S L G d g z h) a .tears .calm u .1
     call-calm powers d a b h u = omega arith
+
+    -- each torn page was torn before, or is what the unfinished program left
+    pub call-left : (c : Call S) (d : Device S) → Assumed S c d → Because S L G (call S c d) → Stands S L G d → (i : ℕ) → Torn S (pageAt S (call S c d .log) i)
+        → Torn S (pageAt S (d .log) i) ⊎ ((page : Page) × (unfinishedIn S c d ≡ some (page, pageAt S (call S c d .log) i)))
+    call-left (offers r) d a b h i t = inl t
+    call-left (drains l wd armed g z) d a b h i t =
+        drain-keeps S L G (d .past) (d .now) l wd armed (begin S d g z) (begins S L G d g z h) a (why S L G d (drain S l wd armed (begin S d g z)) b) .tears .left refl i t
+    call-left (writes g z) d a b h i t = write-keeps S L G (d .past) (d .now) (begin S d g z) (begins S L G d g z h) a .tears .left refl i t
+    call-left powers d a b h i t = inl t
 
     -- the pages below the next one stay
     pub call-front : (c : Call S) (d : Device S) → Assumed S c d → Because S L G (call S c d) → Stands S L G d → NoPowerOn S (c ∷ []) → (k : ℕ)
@@ -104,6 +115,9 @@ module _ {Page Record Mask : Type 0} (S : PageStore Page Record Mask) (L : Lawfu
 
     none-torn : (calls : List (Call S)) → AllAssumed S calls lived → AllFinished S calls lived → tornIn S (lives S calls lived .log) ≤ tornIn S (lived .log)
     none-torn calls a′ u = lives-calm (strictly S L pages) calls lived a′ (inr (omega arith)) stood u
+
+  pub torn-is-left : TornIsLeft S
+  torn-is-left pages z h life c a a′ = call-left (strictly S L pages) c (lived pages z h life a) a′ (inr (omega arith)) (stood pages z h life a)
 
   pub at-most-one-torn : AtMostOneTorn S
   at-most-one-torn pages z h life calls a a′ o = one-torn pages z h life a calls a′ o

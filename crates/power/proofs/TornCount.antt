@@ -1,5 +1,6 @@
 -- Counting torn pages: over lists of pages, over a program at the cell behind the used pages, and what a call may add. Assumes nothing.
 use Prim.Native.Nat.{ℕ, suc, _+_, _≤_}
+use mathlib.Core.Logic.{_⊎_, inl, inr}
 use mathlib.Core.Path.{_≡_, refl, sym, ap, _∙_}
 use mathlib.Core.Bool.{Bool, true, false}
 use mathlib.Core.Option.{Option, none, some}
@@ -9,11 +10,11 @@ use lib.ListN.{length, take}
 use lib.Seq.{take-at, append-snoc}
 use Rattle.power.specs.Pages.{Decoded, PageStore}
 use Rattle.power.specs.Lawful.{Lawful}
-use Rattle.power.specs.Reading.{Blanks, Whole}
+use Rattle.power.specs.Reading.{Blanks, Whole, Torn, pageAt}
 use Rattle.power.specs.Writer.{Writer}
 use Rattle.power.specs.Calls.{Pass}
 use Rattle.power.specs.Torn.{tornOne, tornIn}
-use Rattle.power.proofs.Used.{length-snoc, blank-yes}
+use Rattle.power.proofs.Used.{length-snoc, blank-yes, none-some}
 
 module _ {Page Record Mask : Type 0} (S : PageStore Page Record Mask) (L : Lawful S) where
   torn-few : (blank : Bool) (o : Option (Decoded Record)) → tornOne S blank o ≤ 1
@@ -84,22 +85,37 @@ module _ {Page Record Mask : Type 0} (S : PageStore Page Record Mask) (L : Lawfu
   abbrev pub Under : ℕ → Writer S → Type 0
   Under k w = w .writable ≡ true → k ≤ w .nextPage
 
+  abbrev pub LeftTorn : Pass S → Pass S → ℕ → Type 0
+  LeftTorn p q i = Torn S (pageAt S (p .log) i) ⊎ ((page : Page) × (q .unfinished ≡ some (page, pageAt S (q .log) i)))
+
   -- from one moment of a call to another
   pub record Tears (p q : Pass S) : Type 0 where
     pub few : (so-many : ℕ) → Few so-many (p .log) (p .writer) → Few so-many (q .log) (q .writer)
     pub calm : q .unfinished ≡ none → (p .unfinished ≡ none) × (tornIn S (q .log) ≤ tornIn S (p .log))
     pub front : (k : ℕ) → Under k (p .writer) → (take k (q .log) ≡ take k (p .log)) × Under k (q .writer)
+    -- a page that is torn was torn before, or the program that was left unfinished left it
+    pub left : p .unfinished ≡ none → (i : ℕ) → Torn S (pageAt S (q .log) i) → LeftTorn p q i
 
   pub tears-none : (p : Pass S) → Tears p p
-  tears-none p = record { few = λ n f. f; calm = λ u. (u, omega arith); front = λ k u. (refl, u) }
+  tears-none p = record { few = λ n f. f; calm = λ u. (u, omega arith); front = λ k u. (refl, u); left = λ u i t. inl t }
 
-  pub tears-then : {p q r : Pass S} → Tears p q → Tears q r → Tears p r
-  tears-then a b =
+  -- where the first leaves no program unfinished
+  pub tears-then : {p q r : Pass S} → q .unfinished ≡ p .unfinished → Tears p q → Tears q r → Tears p r
+  tears-then {p} {q} {r} e a b =
       record {
         few = λ n f. b .few n (a .few n f);
         calm = λ u. (a .calm (b .calm u .0) .0, omega (arith, a .calm (b .calm u .0) .1, b .calm u .1));
         front = λ k u. (b .front k (a .front k u .1) .0 ∙ a .front k u .0, b .front k (a .front k u .1) .1);
+        left = λ u i t. second u i (b .left (e ∙ u) i t);
       }
+    where
+      first : (i : ℕ) → q .unfinished ≡ none → LeftTorn p q i → Torn S (pageAt S (p .log) i)
+      first i u (inl t) = t
+      first i u (inr l) = absurd (none-some u (l .1))
+
+      second : p .unfinished ≡ none → (i : ℕ) → LeftTorn q r i → LeftTorn p r i
+      second u i (inl t) = inl (first i (e ∙ u) (a .left u i t))
+      second u i (inr l) = inr l
 
   -- nothing but the writer changed, and of that neither the next page nor whether it may write, and no page waits that did not before
   pub tears-as : (p q : Pass S) → q .log ≡ p .log → q .unfinished ≡ p .unfinished → q .writer .nextPage ≡ p .writer .nextPage
@@ -115,4 +131,5 @@ module _ {Page Record Mask : Type 0} (S : PageStore Page Record Mask) (L : Lawfu
             };
         calm = λ k. (sym u ∙ k, rw e (omega arith));
         front = λ k h. (ap (take k) e, λ a. rw x (h (on a)));
+        left = λ u i t. inl (rw e at t);
       }

@@ -121,7 +121,7 @@ module _ {Page Record Mask : Type 0} (S : PageStore Page Record Mask) (L : Lawfu
             → Keeps S L G past now p (onward S k (takeNext S wd queue p))
         next-keeps [] p e c h un why = keeps-none S L G past now h
         next-keeps (x ∷ queue) p e c h un why =
-            record { good = later .good; adds = later .adds; tears = tears-then S L (take-tears wd x queue p) (later .tears) }
+            record { good = later .good; adds = later .adds; tears = tears-then S L refl (take-tears wd x queue p) (later .tears) }
           where
             first : Good S L G past now (takeOne S wd x queue p)
             first =
@@ -135,7 +135,7 @@ module _ {Page Record Mask : Type 0} (S : PageStore Page Record Mask) (L : Lawfu
         after-keeps : (p : Pass S) (t : Step S) → StepKeeps S L G past now p t → Undecoded S ((onward S k (afterPut S wd t)) .unfinished)
             → Why S L G past now ((onward S k (afterPut S wd t)) .logged) → Keeps S L G past now p (onward S k (afterPut S wd t))
         after-keeps p (ends q) a un why = a un
-        after-keeps p (goes-on q) a un why = keeps-then S L G past now (a .0) (next-keeps (q .queue) q refl (a .1) (a .0 .good) un why)
+        after-keeps p (goes-on q) a un why = keeps-then S L G past now (a .3) (a .0) (next-keeps (q .queue) q refl (a .1) (a .0 .good) un why)
 
     open-keeps : (p : Pass S) (v : Writer S) (writable : Bool) (waiting ready : Option Page) (r : Bool) (rows : List Record) (m : Bool)
         → writable ≡ true → Good S L G past now (withWriter S (shaped S L writable waiting ready r rows m v) p)
@@ -244,7 +244,7 @@ module _ {Page Record Mask : Type 0} (S : PageStore Page Record Mask) (L : Lawfu
         (λ un. ended-keeps (withWriter S (shaped S L true none (some page) r [] m v) p)
         (programIfRoom S (unasked S (p .succeed) (p .next)) (p .next) page (withWriter S (shaped S L true (some page) none r [] m v) p))
         (step-as S L G past now (withWriter S (shaped S L true none (some page) r [] m v) p) (withWriter S (shaped S L true (some page) none r [] m v) p)
-        (programIfRoom S (unasked S (p .succeed) (p .next)) (p .next) page (withWriter S (shaped S L true (some page) none r [] m v) p)) refl refl
+        (programIfRoom S (unasked S (p .succeed) (p .next)) (p .next) page (withWriter S (shaped S L true (some page) none r [] m v) p)) refl refl refl
         (fetch-tears S L G past now p v page r [] m)
         (room-keeps S L G past now p v page r m (h .sane .1) (h .inv) (h .fits) (h .small) (unasked S (p .succeed) (p .next)) (p .next))) un)
     write-by p v true (some page) ready r rows m h =

@@ -1,6 +1,7 @@
 -- Where torn pages come from: at most one from a power-on, only where a program was cut or failed, and gone again if a later program makes the page
 -- whole. And what may stand behind one. proofs/Torn and proofs/TornEnds show each statement here.
 use Prim.Native.Nat.{ℕ, suc, _+_, _≤_, _<_}
+use mathlib.Core.Logic.{_⊎_}
 use mathlib.Core.Path.{_≡_}
 use mathlib.Core.Bool.{Bool, true, false}
 use mathlib.Core.Option.{Option, none, some}
@@ -8,7 +9,7 @@ use mathlib.Core.List.{List, [], _∷_}
 use Rattle.power.specs.Pages.{Decoded, PageStore}
 use Rattle.power.specs.Reading.{Whole, Torn, pageAt}
 use Rattle.power.specs.Calls.{drain, writePending}
-use Rattle.power.specs.Life.{Device, Call, offers, drains, writes, powers, begin, powerOn, call, lives, unpowered, AllAssumed}
+use Rattle.power.specs.Life.{Device, Call, offers, drains, writes, powers, begin, powerOn, call, lives, unpowered, AllAssumed, Assumed}
 use Rattle.power.specs.Theorem.{erased, after}
 use Rattle.power.specs.Segments.{Board}
 
@@ -32,12 +33,16 @@ module _ {Page Record Mask : Type 0} (S : PageStore Page Record Mask) where
   NoPowerOn (writes succeed next ∷ calls) = NoPowerOn calls
   NoPowerOn (powers ∷ calls) = ⊥
 
-  -- a call that left no program unfinished: none was cut, and none failed
+  -- what the program that a call left unfinished should have made and what it left in its place, if there was one: it was cut, or it failed
+  abbrev pub unfinishedIn : Call S → Device S → Option (Page × Page)
+  unfinishedIn (offers r) d = none
+  unfinishedIn (drains limit whileDisarmed armed succeed next) d = drain S limit whileDisarmed armed (begin S d succeed next) .unfinished
+  unfinishedIn (writes succeed next) d = writePending S (begin S d succeed next) .unfinished
+  unfinishedIn powers d = none
+
+  -- a call that left no program unfinished
   abbrev pub Finished : Call S → Device S → Type 0
-  Finished (offers r) d = Unit {0}
-  Finished (drains limit whileDisarmed armed succeed next) d = drain S limit whileDisarmed armed (begin S d succeed next) .unfinished ≡ none
-  Finished (writes succeed next) d = writePending S (begin S d succeed next) .unfinished ≡ none
-  Finished powers d = Unit {0}
+  Finished c d = unfinishedIn c d ≡ none
 
   abbrev pub AllFinished : List (Call S) → Device S → Type 0
   AllFinished [] d = Unit {0}
@@ -62,6 +67,15 @@ module _ {Page Record Mask : Type 0} (S : PageStore Page Record Mask) where
       (pages : ℕ) → 0 < pages → pages + 2 ≤ S .limit → (life calls : List (Call S)) → AllAssumed S life (unpowered S (erased S pages))
       → AllAssumed S calls (after S pages life) → AllFinished calls (after S pages life)
       → tornIn (lives S calls (after S pages life) .log) ≤ tornIn (after S pages life .log)
+
+  -- A TORN PAGE IS WHAT AN UNFINISHED PROGRAM LEFT: after every call of every life each torn page was torn before it, or is what the program left that the
+  -- call did not finish
+  abbrev pub TornIsLeft : Type 0
+  TornIsLeft =
+      (pages : ℕ) → 0 < pages → pages + 2 ≤ S .limit → (life : List (Call S)) (c : Call S) → AllAssumed S life (unpowered S (erased S pages))
+      → Assumed S c (after S pages life) → (i : ℕ) → Torn S (pageAt S (call S c (after S pages life) .log) i)
+      → Torn S (pageAt S (after S pages life .log) i)
+      ⊎ ((page : Page) × (unfinishedIn c (after S pages life) ≡ some (page, pageAt S (call S c (after S pages life) .log) i)))
 
   -- ---- what stands behind a torn page
 
