@@ -20,7 +20,8 @@ use Rattle.power.specs.Torn.{tornIn, AllFinished, MarkAfterTorn}
 use Rattle.power.specs.Torn as Theory
 use Rattle.power.proofs.Moments.{lives-append}
 use Rattle.power.proofs.Segments.{segmented, marks-first}
-use Rattle.power.proofs.Boards.{both-true, true-both, aligned-is-tested, two-power-ons, explained, paired}
+use Rattle.power.proofs.Tested.{both-true, true-both, aligned-is-tested}
+use Rattle.power.proofs.Boards.{two-power-ons, explained, paired}
 use Rattle.power.proofs.Shut.{equal-aligned, shut-explained}
 use Rattle.power.proofs.Offers.{logged-within, streams-aligned}
 use Rattle.power.proofs.Torn.{at-most-one-torn}

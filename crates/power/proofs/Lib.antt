@@ -18,6 +18,8 @@ pub mod Small
 pub mod Instance
 pub mod Marked
 pub mod Segments
+pub mod Aligned
+pub mod Tested
 pub mod Boards
 pub mod Offers
 pub mod Torn

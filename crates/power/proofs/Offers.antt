@@ -23,7 +23,7 @@ use Rattle.power.proofs.Passes.{each-left, both-ways}
 use Rattle.power.proofs.Counted.{write-logs-nothing}
 use Rattle.power.proofs.Logged.{unmarked, records-in-append, drain-logs}
 use Rattle.power.proofs.Marked.{WellDevice, OffersAre, well-lives, well-unpowered}
-use Rattle.power.proofs.Boards.{near-fronts, put-both}
+use Rattle.power.proofs.Aligned.{near-fronts, put-both}
 
 module _ {Page Record Mask : Type 0} (S : PageStore Page Record Mask) (L : Lawful S) where
   -- ---- once the power went the writer may not write

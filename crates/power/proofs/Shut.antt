@@ -19,7 +19,8 @@ use Rattle.power.specs.Boards.{Behind, Near, CommonHistory, AlignedIsSha
 use Rattle.power.specs.Boards.{seen, eachSeen, loggedBy, ShutExplained}
 use Rattle.power.proofs.Counted.{unwritable-logs-nothing, write-logs-nothing}
 use Rattle.power.proofs.Theorem.{quiet-call}
-use Rattle.power.proofs.Boards.{logs-aligned, filled-seen, explained-from-erased}
+use Rattle.power.proofs.Aligned.{logs-aligned}
+use Rattle.power.proofs.Boards.{filled-seen, explained-from-erased}
 use Rattle.power.proofs.Moments.{lives-append}
 
 goes-on : {A : Type 0} {n : ℕ} {left right : List (List A)} (more : List (List A)) → Aligned n false true left right → Aligned n false true (left ++ more) right

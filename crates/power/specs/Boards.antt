@@ -1,6 +1,6 @@
 -- Two boards on one bench: which differences of their logs power cuts, failed programs and a busy store explain. Records are compared by a key of
 -- the reader's choice, as the record without its flight: a flight all of whose pages were lost gives its number away again, so flights may
--- differ where nothing else does. proofs/Boards and proofs/Shut show each statement here.
+-- differ where nothing else does. proofs/Aligned, proofs/Tested, proofs/Boards and proofs/Shut show each statement here.
 use Prim.Native.Nat.{ℕ, _+_, _≤_}
 use mathlib.Core.Path.{_≡_}
 use mathlib.Core.Bool.{Bool, true, false, cond}
