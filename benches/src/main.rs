@@ -392,11 +392,13 @@ fn children_time() -> Duration {
     Duration::from_micros((usage[0] * 1_000_000 + usage[1] + usage[2] * 1_000_000 + usage[3]) as u64)
 }
 
-/// The census program on an image, by its processor time.
+/// The census program on an image, by its processor time; `program` is a command of words.
 fn census_time(program: &str, image: &[u8]) -> f64 {
     let times = (0..15).map(|_| {
         let began = children_time();
-        let mut child = Command::new(program).stdin(Stdio::piped()).stdout(Stdio::null()).spawn().expect("the census program starts");
+        let mut words = program.split(' ');
+        let mut command = Command::new(words.next().unwrap());
+        let mut child = command.args(words).stdin(Stdio::piped()).stdout(Stdio::null()).spawn().expect("the census program starts");
         child.stdin.take().unwrap().write_all(image).unwrap();
         assert!(child.wait().unwrap().success());
         (children_time() - began).as_secs_f64()
