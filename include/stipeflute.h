@@ -13,6 +13,8 @@
  * is refused; where something is refused it is left as it was, and so is every other lent byte, but for what a failing device itself
  * stored (stipeflute_page_program, stipeflute_start_mark_step).
  *
+ * Stack. A call uses at most 4 KB of stack, but for the two whose comment says more.
+ *
  * Flags that are handed in are u8: 0 is false, any other value is true. An Option that is handed in is such a flag and a value, which
  * is not looked at where the flag is 0.
  *
@@ -222,7 +224,8 @@ uint32_t stipeflute_ack_response(uint8_t number, uint8_t *answer, size_t answer_
  * the next is played.
  * answer, 261: flag 0: what push and stop say of a ready page, whether take_ready_page gives one, whether there is an unfinished flight,
  * whether a flight is recorded; the unfinished flight (u32) 1; the page that is taken 5; zeros where a call gives none of these, and for
- * a script of no rows. Refused: 17 (also where the script is no multiple of 54 bytes), then what the last call is refused: 9, 10, 11. */
+ * a script of no rows. Refused: 17 (also where the script is no multiple of 54 bytes), then what the last call is refused: 9, 10, 11.
+ * Stack: 7 KB. */
 uint32_t stipeflute_assemble(const uint8_t *script, size_t script_len, uint8_t *answer, size_t answer_len);
 
 /* ---- writer */
@@ -242,7 +245,8 @@ uint32_t stipeflute_assemble(const uint8_t *script, size_t script_len, uint8_t *
  * cut, of write_pending 0 Nothing, 1 Written, 2 RegionFull, 3 ProgramFailed, 4 power cut, of flush 1 if it flushes, else 0; writable 1, recording 2
  * (flags); whether a flight is unfinished 3 and whether a flush waits 4 (flags); the queue's length (u8) 5; pages_written 8, records_dropped 12,
  * write_faults 16, next page 20, next flight 24, the unfinished flight 28 (u32 each); the flush's start (u64) 32.
- * Refused: 5, 17 (a row that is malformed, or an output of another length); then image and output stay as they were. */
+ * Refused: 5, 17 (a row that is malformed, or an output of another length); then image and output stay as they were.
+ * Stack: 20 KB. */
 uint32_t stipeflute_rig(uint32_t capacity_bytes, uint8_t *image, size_t image_len, const uint8_t *script, size_t script_len,
                         uint8_t *output, size_t output_len);
 

@@ -4,6 +4,9 @@
 //! Times are those of this thread on its processor, so that other programs on the machine weigh little.
 //!
 //! The exports lay their answer into a row; the Rust's functions return a value. Buffers are warm: each was read in the round before.
+//!
+//! Below the table: zlib's crc32 on the same bytes, from the system's libz.so.1, and the census program, which has no Rust beside it. Either
+//! is left out where it is not at hand, and a line says so.
 
 use oracle::blackbox::{self, FlightRecord};
 use oracle::images::Image;
@@ -11,7 +14,10 @@ use oracle::layout::StorageLayout;
 use oracle::life::{Board, Next, Op, Programs};
 use oracle::seeded::Seeded;
 use oracle::{images, log_sync, ours, page, records, sync_ledger, theirs};
+use std::ffi::{CStr, c_char, c_int, c_ulong, c_void};
 use std::hint::black_box;
+use std::io::Write;
+use std::process::{Command, Stdio};
 use std::time::Duration;
 
 const ROUNDS: usize = 151;
@@ -45,6 +51,9 @@ struct Timespec {
 
 unsafe extern "C" {
     fn clock_gettime(clock: i32, time: *mut Timespec) -> i32;
+    fn dlopen(name: *const c_char, flags: c_int) -> *mut c_void;
+    fn dlsym(library: *mut c_void, name: *const c_char) -> *mut c_void;
+    fn getrusage(whose: c_int, usage: *mut [i64; 18]) -> c_int;
 }
 
 /// Linux's CLOCK_THREAD_CPUTIME_ID.
@@ -188,6 +197,53 @@ fn image_calls(image: &Image, said: &str) {
     );
 }
 
+/// A whole page programmed, by each side's own NOR rule: what the device would do is the oracle's stand-in on the Rust's side.
+fn programs(random: &mut Seeded) {
+    let image = Image::erased(61_440);
+    let (mut one, mut other) = (image.bytes.clone(), image.bytes.clone());
+    let page = blackbox::encode_page(7, 9, &images::records(random, 5)).unwrap();
+    let keep = [0u8; 256];
+    measure(
+        "page_program",
+        "256 bytes at log page 100",
+        || {
+            black_box(theirs::page_program(61_440, black_box(&mut other), 12_288 + 25_600, black_box(&page), &keep, 0));
+        },
+        || {
+            black_box(ours::page_program(61_440, black_box(&mut one), 12_288 + 25_600, black_box(&page), &keep, 0));
+        },
+    );
+    assert!(one == other, "the two programmed differently");
+}
+
+fn acknowledgement(image: &Image, said: &str) {
+    let capacity = image.capacity;
+    let (bytes, faults) = (&image.bytes[..], &image.faults[..]);
+    let layout = StorageLayout::new(capacity).unwrap();
+    let found = log_sync::find_flight(layout, &mut theirs::reader(bytes, faults), image.used, 317).unwrap().unwrap();
+    let reply = ours::check_ack(capacity, bytes, faults, image.used, 0, 0, 317, found.pages);
+    assert_eq!(reply, 0, "the acknowledgement is taken");
+    measure(
+        "check_ack",
+        said,
+        || {
+            black_box(log_sync::check_ack(
+                layout,
+                &mut theirs::reader(black_box(bytes), faults),
+                image.used,
+                None,
+                black_box(317),
+                found.pages,
+            ))
+            .unwrap()
+            .unwrap();
+        },
+        || {
+            black_box(ours::check_ack(capacity, black_box(bytes), faults, image.used, 0, 0, black_box(317), found.pages));
+        },
+    );
+}
+
 fn sync_calls(image: &Image, said: &str) {
     let capacity = image.capacity;
     let layout = StorageLayout::new(capacity).unwrap();
@@ -234,11 +290,26 @@ fn passes(random: &mut Seeded, count: u32, offers: u32, drains: bool) -> Vec<u8>
     script
 }
 
+/// A script of power-ons, each with so many records offered after it.
+fn offers(random: &mut Seeded, count: u32, offers: u32) -> Vec<u8> {
+    let mut script = Vec::new();
+    for _ in 0..count {
+        script.extend_from_slice(&theirs::script_row(&Op::PowerOn));
+        for _ in 0..offers {
+            script.extend_from_slice(&theirs::script_row(&Op::Offer(images::record(random))));
+        }
+    }
+    script
+}
+
 fn drain(random: &mut Seeded) {
-    let with = play("32 passes of 16 records, played", &passes(random, 32, 16, true));
-    let without = play("the same offers without drains", &passes(random, 32, 16, false));
     let less = |a: &[f64], b: &[f64]| -> Vec<f64> { a.iter().zip(b).map(|(a, b)| a - b).collect() };
+    let with = play("32 passes of 16 records, played", &passes(random, 32, 16, true));
+    let without = play("the same offers without drains, 481 of 512 refused", &passes(random, 32, 16, false));
     line("drain", "the 32 drains alone, by difference", &less(&with.0, &without.0), &less(&with.1, &without.1));
+    let with = play("16 power-ons, 31 records offered after each", &offers(random, 16, 31));
+    let without = play("the 16 power-ons alone", &offers(random, 16, 0));
+    line("offer", "the 496 offers alone, all taken, by difference", &less(&with.0, &without.0), &less(&with.1, &without.1));
 }
 
 /// A script on both players: each tests and reads its rows, plays them and tells 40 bytes of each.
@@ -264,6 +335,92 @@ fn play(said: &str, script: &[u8]) -> (Vec<f64>, Vec<f64>) {
     times
 }
 
+type Crc = unsafe extern "C" fn(c_ulong, *const u8, u32) -> c_ulong;
+type Version = unsafe extern "C" fn() -> *const c_char;
+
+/// zlib's crc32 and its version, from the system's library.
+fn zlib() -> Option<(Crc, String)> {
+    const NOW: c_int = 2;
+    unsafe {
+        let library = dlopen(c"libz.so.1".as_ptr(), NOW);
+        if library.is_null() {
+            return None;
+        }
+        let (crc, version) = (dlsym(library, c"crc32".as_ptr()), dlsym(library, c"zlibVersion".as_ptr()));
+        if crc.is_null() || version.is_null() {
+            return None;
+        }
+        let version = std::mem::transmute::<*mut c_void, Version>(version)();
+        Some((std::mem::transmute::<*mut c_void, Crc>(crc), CStr::from_ptr(version).to_string_lossy().into_owned()))
+    }
+}
+
+/// zlib's crc32 beside ours, on the same bytes.
+fn limit(random: &mut Seeded) {
+    let Some((crc, version)) = zlib() else {
+        println!("zlib's crc32: not measured, since libz.so.1 is not at hand");
+        return;
+    };
+    let mut bytes = vec![0u8; 65_536];
+    random.fill(&mut bytes);
+    println!("| call | input | zlib {version} | Stipeflute | times as fast |");
+    println!("|---|---|---|---|---|");
+    for (len, said) in [(252, "252 bytes"), (65_536, "65,536 bytes")] {
+        let bytes = &bytes[..len];
+        let mut row = [0u8; 4];
+        let theirs = unsafe { crc(0, bytes.as_ptr(), len as u32) } as u32;
+        ours::crc32(bytes, &mut row);
+        assert_eq!(theirs, u32::from_le_bytes(row), "zlib's checksum is another");
+        measure(
+            "crc32",
+            said,
+            || {
+                black_box(unsafe { crc(0, black_box(bytes).as_ptr(), len as u32) });
+            },
+            || {
+                black_box(ours::crc32(black_box(bytes), &mut row));
+            },
+        );
+    }
+}
+
+/// The processor time of the processes that have ended, user and system.
+fn children_time() -> Duration {
+    const CHILDREN: c_int = -1;
+    let mut usage = [0i64; 18];
+    assert_eq!(unsafe { getrusage(CHILDREN, &mut usage) }, 0);
+    Duration::from_micros((usage[0] * 1_000_000 + usage[1] + usage[2] * 1_000_000 + usage[3]) as u64)
+}
+
+/// The census program on an image, by its processor time; `program` is a command of words.
+fn census_time(program: &str, image: &[u8]) -> f64 {
+    let times = (0..15).map(|_| {
+        let began = children_time();
+        let mut words = program.split(' ');
+        let mut command = Command::new(words.next().unwrap());
+        let mut child = command.args(words).stdin(Stdio::piped()).stdout(Stdio::null()).spawn().expect("the census program starts");
+        child.stdin.take().unwrap().write_all(image).unwrap();
+        assert!(child.wait().unwrap().success());
+        (children_time() - began).as_secs_f64()
+    });
+    median(times.collect())
+}
+
+/// The census program on a log of 176 flights, and on an image that it refuses, which is what starting it costs.
+fn census() {
+    let Ok(program) = std::env::var("STIPEFLUTE_CENSUS") else {
+        println!("census: not measured, since its program is not at hand (rt check census makes it, for x86-64)");
+        return;
+    };
+    let mut image = Image::erased(61_440);
+    for index in 0..image.pages() {
+        let page = blackbox::encode_page(index + 1, index, &[]).unwrap();
+        image.page_mut(index).copy_from_slice(&page);
+    }
+    let (whole, refused) = (census_time(&program, &image.bytes), census_time(&program, &[0; 100]));
+    println!("census: 61,440 bytes, {} flights: {}, of which {} start the program", image.pages(), shown(whole), shown(refused));
+}
+
 fn main() {
     let mut random = Seeded::new(1, "benches", 0);
     println!("| call | input | the Rust | Stipeflute | times as fast |");
@@ -271,7 +428,13 @@ fn main() {
     codec(&mut random);
     let log = full_log(1000, 0);
     image_calls(&log, "a full image of 16 MiB, 1,000 flights");
+    acknowledgement(&log, "the same, a flight of 65 pages");
     sync_calls(&log, "the same, none acknowledged");
     sync_calls(&full_log(1000, 1000), "the same, all acknowledged");
+    programs(&mut random);
     drain(&mut random);
+    println!();
+    limit(&mut random);
+    println!();
+    census();
 }

@@ -1,1 +1,3 @@
 pub mod Remainders
+pub mod Linear
+pub mod Table

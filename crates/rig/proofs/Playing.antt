@@ -35,6 +35,10 @@ length-tells : (p : Played) → length (tellsOf p) ≡ 40
 unfolding tellsOf leBytes
 length-tells p = refl
 
+pub tells-there : (output output′ bytes : List ℕ) (at : ℕ) (p : Played) → bytes ≡ tellsOf p → output′ ≡ placed output at bytes
+    → output′ ≡ placed output at (tellsOf p)
+tells-there output output′ bytes at p eb eo = eo ∙ ap (placed output at) eb
+
 module _ (c : ℕ) (script image₀ : List ℕ) where
   -- the operations of the rows from i on
   abbrev left : ℕ → List Operation

@@ -1,27 +1,27 @@
 -- Each operation, by the row that says it and by the call that does it. Assumes nothing.
-use Prim.Native.Nat.{ℕ, zero, suc, _+_, _-_, _*_, _/_, _^_, _≤_, _<_, min}
+use Prim.Native.Nat.{ℕ, zero, suc, _+_, _*_, _/_, _^_, _<_}
 use mathlib.Core.Path.{_≡_, refl, sym, ap, _∙_}
-use mathlib.Core.Bool.{Bool, true, false, false≢true}
-use mathlib.Core.List.{List, _∷_}
-use native.Mathlib.Decide.{decLe}
+use mathlib.Core.Bool.{Bool, true}
+use mathlib.Core.List.{List, []}
 use native.Mathlib.Omega.{arith}
-use lib.ListN.{length, getD, take, replicate}
-use Rattle.laws.specs.Answers.{Answer, must}
-use Rattle.laws.specs.Refusals.{invalidLayout}
+use lib.ListN.{length, getD, replicate, length-replicate}
+use Rattle.laws.specs.Answers.{gives}
 use Rattle.laws.specs.declared.Refusal.{Refusal}
 use Rattle.words.specs.Words.{u32At}
-use Rattle.layout.specs.Layout.{validCapacity}
-use Rattle.layout.proofs.Capacity.{valid}
-use Rattle.store.specs.Store.{part, onImage, onLengths}
+use Rattle.layout.specs.Layout.{pagesIn}
+use Rattle.store.specs.Store.{part, told, onImage, onLengths}
+use Rattle.store.specs.declared.StoreAnswer.{StoreAnswer}
+use Rattle.store.specs.declared.StoreAnswer.the-variants as Checked
+use Rattle.store.proofs.Checks.{on-lengths, image-refused, image-held}
 use Rattle.blackbox.specs.Record.{recordOf, recordDecoded, recordAnswer}
 use Rattle.blackbox.specs.declared.RecordAnswer.{RecordAnswer}
-use Rattle.records.specs.Scan.{toldScan, scanned}
+use Rattle.records.specs.Scan.{toldScan, scanPages, scanned}
+use Rattle.records.proofs.Faults.{scan-alike}
 use Rattle.records.specs.declared.Scan.{Scan}
 use Rattle.records.specs.declared.ScanAnswer.{ScanAnswer}
 use Rattle.records.specs.declared.ScanAnswer.the-variants as Answered
 use Rattle.queue.specs.Queue.{empty, offered}
 use Rattle.queue.specs.declared.RecordQueue.{RecordQueue}
-use Rattle.queue.specs.declared.OfferAnswer.{OfferAnswer}
 use Rattle.log_state.specs.Writer.{fresh, recovered}
 use Rattle.log_state.specs.Flush.{flushed}
 use Rattle.log_state.specs.declared.LogWriter.{LogWriter}
@@ -40,48 +40,31 @@ pub unpowered-made : (w : LogWriter) (q : RecordQueue) → w ≡ fresh → q ≡
 unfolding unpowered
 unpowered-made w q ew eq = λ k. bench (ew k) (eq k)
 
-pub offer-made : (w : LogWriter) (q : RecordQueue) (row : List ℕ) (read : RecordAnswer) (answer : OfferAnswer) (r : Played)
-    → length row ≡ 288 → read ≡ recordAnswer (recordDecoded (part 32 48 row)) → answer ≡ offered q (read .«record»)
-    → r ≡ playing w (answer .queue) (answer .refused) 0 0 0 → r ≡ offering w (offered q (recordOf (part 32 48 row)))
-offer-made w q row read answer r n er ea e =
-    e ∙ ap (offering w) (ea ∙ ap (offered q) (record-in row read n er))
+-- the record of an offer's row
+pub record-made : (row : List ℕ) (read : RecordAnswer) → length row ≡ 288 → read ≡ recordAnswer (recordDecoded (part 32 48 row))
+    → read .«record» ≡ recordOf (part 32 48 row)
+record-made row read n e = record-in row read n e
 
 -- ---- a scan without faults
 
-zeros-taken : (n m : ℕ) → n ≤ m → take {A = ℕ} n (replicate m 0) ≡ replicate n 0
-zeros-taken zero m h = refl
-zeros-taken (suc n) zero h = absurd (omega arith)
-zeros-taken (suc n) (suc m) h = ap {B = List ℕ} (λ (l : List ℕ). 0 ∷ l) (zeros-taken n m (omega arith))
+-- a fault byte that isn't there is 0, as each of those that are
+no-fault : (n i : ℕ) → getD {A = ℕ} [] i 0 ≡ getD (replicate n 0) i 0
+no-fault zero i = refl
+no-fault (suc n) zero = refl
+no-fault (suc n) (suc i) = no-fault n i
 
--- a capacity of more fault bytes than that is refused, whatever they are
-refused-alike : {A : Type 0} (b : Bool) (number : ℕ) (x y : Answer A) → b ≡ false → must b number x ≡ must b number y
-refused-alike true number x y e = absurd (false≢true (sym e))
-refused-alike false number x y e = refl
+module _ (c : ℕ) (image : List ℕ) (a : StoreAnswer) (e : told a ≡ onImage c (length image) (gives tt)) where
+  pub scan-refused : (x : Refusal) → a ≡ Checked.Refused x → toldScan (Answered.Refused x) ≡ scanned c image (noFaults c)
+  unfolding scanned onLengths
+  scan-refused x w = image-refused c (length image) a e _ x w
 
-too-great : (c : ℕ) → 65536 < c / 256 → validCapacity c ≡ false
-too-great c h = go (validCapacity c) refl
-  where
-    go : (b : Bool) → validCapacity c ≡ b → validCapacity c ≡ false
-    go true e = absurd (omega (arith, valid c e .most))
-    go false e = e
-
-module _ (c : ℕ) (image : List ℕ) where
-  scanned-great : (faults faults′ : List ℕ) → validCapacity c ≡ false → scanned c image faults ≡ scanned c image faults′
-  unfolding scanned onLengths onImage
-  scanned-great faults faults′ e = refused-alike (validCapacity c) invalidLayout _ _ e
-
-  scanned-zeros : (m n : ℕ) → m ≡ 65536 → n ≡ min (c / 256) 65536 → scanned c image (take n (replicate m 0)) ≡ scanned c image (noFaults c)
-  scanned-zeros m n em en = go (decLe (c / 256) 65536)
-    where
-      go : Dec (c / 256 ≤ 65536) → scanned c image (take n (replicate m 0)) ≡ scanned c image (noFaults c)
-      go (yes h) =
-          let z : n ≡ c / 256 = omega arith in
-          ap (scanned c image) (zeros-taken n m (omega arith) ∙ ap (λ (k : ℕ). replicate {A = ℕ} k 0) z)
-      go (no h) = scanned-great (take n (replicate m 0)) (noFaults c) (too-great c (omega arith))
-
-  pub scan-made : (n : ℕ) (s : ScanAnswer) → n ≡ min (c / 256) 65536
-      → toldScan s ≡ scanned c image (take (n - 0) (replicate 65536 0)) → toldScan s ≡ scanned c image (noFaults c)
-  scan-made n s en es = es ∙ scanned-zeros 65536 (n - 0) refl (omega arith)
+  pub scan-made : (s : ScanAnswer) (pages : ℕ) → a ≡ Checked.Done → pages ≡ pagesIn c → toldScan s ≡ scanPages pages image []
+      → toldScan s ≡ scanned c image (noFaults c)
+  unfolding scanned
+  scan-made s pages w ep es =
+      let h = image-held c (length image) a e w in
+      es ∙ ap (λ (n : ℕ). scanPages n image []) ep ∙ scan-alike image [] (noFaults c) (λ a. no-fault (c / 256) (a / 256)) (pagesIn c)
+      ∙ sym (on-lengths c (length image) (length (noFaults c)) (c / 256) _ (h .0) (h .1) (length-replicate (c / 256) 0))
 
 module _ (c : ℕ) (image : List ℕ) (s : ScanAnswer) (w : LogWriter) (q : RecordQueue) (e : toldScan s ≡ scanned c image (noFaults c))
     (ew : w ≡ fresh) (eq : q ≡ empty) where
@@ -115,6 +98,15 @@ flush-made w q row buffered low high answer byte r eb el eh ea ey er =
     er ∙ ap (λ (y : ℕ). playing (answer .writer) q y 0 0 0) ey ∙ ap (flushing q) (ea ∙ (λ k. flushed w (eb k) (el k + 4294967296 * eh k)))
 
 -- ---- what a row's operation does
+
+pub none-below-six : (y : ℕ) → (y ≡ 0 → ⊥) → (y ≡ 1 → ⊥) → (y ≡ 2 → ⊥) → (y ≡ 3 → ⊥) → (y ≡ 4 → ⊥) → (y ≡ 5 → ⊥) → 5 < y
+none-below-six zero a b c d e f = absurd (a refl)
+none-below-six (suc zero) a b c d e f = absurd (b refl)
+none-below-six (suc (suc zero)) a b c d e f = absurd (c refl)
+none-below-six (suc (suc (suc zero))) a b c d e f = absurd (d refl)
+none-below-six (suc (suc (suc (suc zero)))) a b c d e f = absurd (e refl)
+none-below-six (suc (suc (suc (suc (suc zero))))) a b c d e f = absurd (f refl)
+none-below-six (suc (suc (suc (suc (suc (suc y)))))) a b c d e f = omega arith
 
 module _ (c : ℕ) (row image : List ℕ) (b : Bench) where
   abbrev code : ℕ

@@ -11,21 +11,21 @@ use log_writer::WriteAnswer;
 use queue::RecordQueue;
 use records::ScanAnswer;
 use store::StoreAnswer;
-ghost use Prim.Native.Nat.{_+_, _*_, _/_, _^_, min};
+ghost use Prim.Native.Nat.{_+_, _*_, _^_, _<_};
 ghost use mathlib.Core.Path.{_≡_};
 ghost use mathlib.Core.Bool.{true};
 ghost use mathlib.Core.List.{_++_};
 ghost use lib.ListN.{length, getD};
-ghost use Rattle.words.specs.Words.{leBytes, u32At};
+ghost use Rattle.words.specs.Words.{leBytes, u32At, placed};
 ghost use Rattle.blackbox.specs.Record.{recordOf};
 ghost use Rattle.store.specs.Store.{told, part};
 ghost use Rattle.records.specs.Scan.{toldScan, scanned};
-ghost use Rattle.assembler.specs.Assembler.{toldUnfinished, unfinishedFlight};
+ghost use Rattle.assembler.specs.Assembler.{toldUnfinished};
 ghost use Rattle.queue.specs.Queue.{offered};
 ghost use Rattle.log_state.specs.Writer.{recovered};
 ghost use Rattle.log_state.specs.Flush.{flushed};
 ghost use Rattle.script.specs.Script.{flagAt, operationIn, operations, rowsIn};
-ghost use Rattle.rig.specs.Rig.{unpowered, playing, offering, draining, writing, outcomeOf, powering, flushing, noFaults, played};
+ghost use Rattle.rig.specs.Rig.{unpowered, playing, draining, writing, outcomeOf, powering, flushing, noFaults, played};
 ghost use Rattle.rig.specs.Rig.{imageAfter, isThere, numberOr0, since};
 ghost use Rattle.rig.specs.Rig.{bytes64, tellsOf, playsImage, tells, playTold, afterPlay, outputAfter};
 ghost use Rattle.rig.specs.Laws.{SoundBench};
@@ -70,18 +70,13 @@ fn unreported(writer: LogWriter, queue: RecordQueue, outcome: u8) -> Played
     }
 }
 
-// The record of a row is offered to the queue.
-fn offer(bench: Bench, row: &[u8]) -> Played
-    requires { ⌜ SoundBench bench × (length (now row) ≡ 288) ⌝ }
-    ensures { λ r. ⌜ r ≡ offering (bench .writer) (offered (bench .queue) (recordOf (part 32 48 (now (row .entry))))) ⌝ }
+// The record that a row offers.
+fn offered_record(row: &[u8]) -> FlightRecord
+    requires { ⌜ length (now row) ≡ 288 ⌝ }
+    ensures { λ r. ⌜ r ≡ recordOf (part 32 48 (now (row .entry))) ⌝ }
 {
     let read = FlightRecord::decode(&row[32..80]);
-    let record = read.record;
-    let queue = bench.queue;
-    let answer = queue.offer(record);
-    let writer = bench.writer;
-    let after = answer.queue;
-    unreported(writer, after, answer.refused)
+    read.record
 }
 
 // A drain with the numbers and the mask of a row.
@@ -173,21 +168,18 @@ fn write_told(answer: WriteAnswer) -> Played
     unreported(writer, queue, outcome_byte(outcome))
 }
 
-// How many fault bytes a capacity has: a valid one has at most 65,536.
-fn fault_count(capacity_bytes: u32) -> usize
-    ensures { λ r. ⌜ r ≡ min («capacity_bytes» / 256) 65536 ⌝ }
-{
-    let count = (capacity_bytes / 256) as usize;
-    if count <= 65536 { count } else { 65536 }
-}
-
-// A scan without faults; a capacity that has more fault bytes than there are here is refused before one is read.
+// A scan without faults. A fault byte that isn't there reads as 0, so none is lent.
 fn scan(capacity_bytes: u32, image: &[u8]) -> ScanAnswer
     ensures { λ r. ⌜ toldScan r ≡ scanned «capacity_bytes» (now (image .entry)) (noFaults «capacity_bytes») ⌝ }
 {
-    let faults = [0u8; 65536];
-    let count = fault_count(capacity_bytes);
-    records::scan_log(capacity_bytes, image, &faults[0..count])
+    match store::checked_image(capacity_bytes, image.len()) {
+        StoreAnswer::Refused(refusal) => ScanAnswer::Refused(refusal),
+        StoreAnswer::Done => records::scan_pages(
+            records::page_count(capacity_bytes),
+            image,
+            &image[0..0],
+        ),
+    }
 }
 
 // Power comes on: a fresh writer set by one scan alone, and an empty queue.
@@ -241,16 +233,13 @@ fn flush(bench: Bench, row: &[u8]) -> Played
     unreported(writer, queue, script::flag_byte(answer.flush))
 }
 
-// What the operation of a row does.
+// What the operation of a row does, if it is no offer.
 fn step(bench: Bench, capacity_bytes: u32, image: &mut [u8], row: &[u8]) -> Played
-    requires { ⌜ SoundBench bench × (length (now row) ≡ 288) ⌝ }
+    requires { ⌜ SoundBench bench × (length (now row) ≡ 288) × (getD (now row) 2 0 ≡ 0 → ⊥) ⌝ }
     ensures { λ r. ⌜ r ≡ played «capacity_bytes» (operationIn (now (row .entry))) bench (now (image .entry)) ⌝ }
     ensures { λ _. ⌜ now (image .exit) ≡ imageAfter «capacity_bytes» (operationIn (now (row .entry))) bench (now (image .entry)) ⌝ }
 {
     let operation = words::byte_at(row, 2);
-    if operation == 0 {
-        return offer(bench, row);
-    }
     if operation == 1 {
         return drain(bench, capacity_bytes, image, row);
     }
@@ -362,23 +351,47 @@ fn tells_of(played: Played) -> [u8; 40]
     bytes
 }
 
-// The rows of a script, one after another.
+// What is told after a call, at its row's place in the output.
+fn tell(output: &mut [u8], index: usize, played: Played)
+    requires { ⌜ SoundBench (played .bench) × (index * 40 < 2 ^ 64) ⌝ }
+    ensures { λ _. ⌜ now (output .exit) ≡ placed (now (output .entry)) (index * 40) (tellsOf played) ⌝ }
+{
+    let bytes = tells_of(played);
+    words::put_bytes(output, index * TELL_LEN, &bytes);
+}
+
+// The rows of a script, one after another. An offered record is stored where the queue stands; any other row is a step.
 fn play_rows(capacity_bytes: u32, image: &mut [u8], script: &[u8], output: &mut [u8])
     requires { ⌜ length (now output) ≡ rowsIn (now script) * 40 ⌝ }
     ensures { λ _. ⌜ now (image .exit) ≡ playsImage «capacity_bytes» (operations (now (script .entry))) unpowered (now (image .entry)) ⌝ }
     ensures { λ _. ⌜ now (output .exit) ≡ tells «capacity_bytes» (operations (now (script .entry))) unpowered (now (image .entry)) ⌝ }
 {
     let rows = script.len() / script::ROW_LEN;
-    let mut bench = unpowered_bench();
+    let start = unpowered_bench();
+    let mut writer = start.writer;
+    let mut queue = start.queue;
     let mut i = 0;
     while i < rows {
         let a = i * script::ROW_LEN;
-        let e = a + script::ROW_LEN;
-        let played = step(bench, capacity_bytes, image, &script[a..e]);
-        let bytes = tells_of(played);
-        words::put_bytes(output, i * TELL_LEN, &bytes);
+        let row = &script[a..a + script::ROW_LEN];
+        if words::byte_at(row, 2) == 0 {
+            let record = offered_record(row);
+            let place = queue::place_behind(queue.first, queue.held);
+            let at = place.at;
+            let before = queue.slots[at];
+            let stored = queue::kept_or_offered(place.refused, before, record);
+            queue.slots[at] = stored;
+            queue.held = place.held;
+            tell(output, i, unreported(writer, queue, place.refused));
+            i += 1;
+            continue;
+        }
+        let bench = Bench { writer, queue };
+        let played = step(bench, capacity_bytes, image, row);
+        tell(output, i, played);
         let after = played.bench;
-        bench = after;
+        writer = after.writer;
+        queue = after.queue;
         i += 1;
     }
 }

@@ -1,37 +1,50 @@
 -- `rig::scan` meets its contract. Assumes nothing.
 use borrow.Author.Needs.{needs}
-use Rattle.rig.proofs.Ways.{scan-made}
+use Rattle.rig.proofs.Ways.{scan-refused, scan-made}
 use Rattle.rig.proofs.scan.Statement.{statement}
 use Rattle.rig.proofs.scan.Tie as tie
 
-fault-count-requires : tie.Need-fault-count-requires
-fault-count-requires c κs = search needs
+checked-image-requires : tie.Need-checked-image-requires
+checked-image-requires c κs = search needs
 
-sub-scan-log : tie.Need-sub-scan-log
-sub-scan-log c = search needs
+enum-known-refusal : tie.Need-enum-known-refusal
+enum-known-refusal c = search needs
 
-part-scan-log-start : tie.Need-part-scan-log-start
-part-scan-log-start c = search needs
+enum-told : tie.Need-enum-told
+enum-told c = search needs
 
-part-scan-log-end : tie.Need-part-scan-log-end
-part-scan-log-end c = search needs
+page-count-requires : tie.Need-page-count-requires
+page-count-requires c κs = search needs
 
-scan-log-requires : tie.Need-scan-log-requires
-scan-log-requires c κs = search needs
+sub-scan-pages : tie.Need-sub-scan-pages
+sub-scan-pages c = search needs
+
+part-scan-pages-start : tie.Need-part-scan-pages-start
+part-scan-pages-start c = search needs
+
+part-scan-pages-end : tie.Need-part-scan-pages-end
+part-scan-pages-end c = search needs
+
+scan-pages-requires : tie.Need-scan-pages-requires
+scan-pages-requires c κs = search needs
 
 returns : tie.Need-returns
-returns c =
-    let c3 = c .before .before .before in
-    let a = c3 .before .before .args in
-    scan-made (a .capacity-bytes) (a .image .now) _ (c .scan-log .result) (c3 .fault-count .ensures) (c .scan-log .ensures)
+returns c = search (scan-refused, needs)
+
+returns-2 : tie.Need-returns-2
+returns-2 c = search (scan-made, needs)
 
 pub scan-spec : {M : Type 1} → statement M
 scan-spec =
     tie.close
     (tie.spec
-    fault-count-requires
-    sub-scan-log
-    part-scan-log-start
-    part-scan-log-end
-    scan-log-requires
-    returns)
+    checked-image-requires
+    enum-known-refusal
+    enum-told
+    page-count-requires
+    sub-scan-pages
+    part-scan-pages-start
+    part-scan-pages-end
+    scan-pages-requires
+    returns
+    returns-2)
