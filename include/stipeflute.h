@@ -246,7 +246,7 @@ uint32_t stipeflute_assemble(const uint8_t *script, size_t script_len, uint8_t *
  * (flags); whether a flight is unfinished 3 and whether a flush waits 4 (flags); the queue's length (u8) 5; pages_written 8, records_dropped 12,
  * write_faults 16, next page 20, next flight 24, the unfinished flight 28 (u32 each); the flush's start (u64) 32.
  * Refused: 5, 17 (a row that is malformed, or an output of another length); then image and output stay as they were.
- * Stack: 20 KB. */
+ * Stack: 16 KB. */
 uint32_t stipeflute_rig(uint32_t capacity_bytes, uint8_t *image, size_t image_len, const uint8_t *script, size_t script_len,
                         uint8_t *output, size_t output_len);
 

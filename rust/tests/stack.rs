@@ -1,9 +1,10 @@
-//! How much stack each call of the header needs. Each is made on a thread whose stack is a buffer of this test, filled with one byte
-//! before: what is no longer that byte was used. A thread that makes no call shows what a thread uses by itself. A call may use 4 KB, or
-//! what its comment in include/stipeflute.h says ("Stack: N KB").
+//! How much stack each call of the header uses. Each is made on a thread whose stack is a buffer of this test, filled with one byte
+//! before: what is no longer that byte was used, from the place where the thread stood when it made the call. A call may use 4 KB, or what its
+//! comment in include/stipeflute.h says ("Stack: N KB").
 
 use std::collections::BTreeMap;
 use std::ffi::c_void;
+use std::hint::black_box;
 use stipeflute::ffi::*;
 use stipeflute::{encode_page, FlightRecord, RECORD_LEN};
 
@@ -13,6 +14,10 @@ const FILL: u8 = 0xa5;
 /// glibc's pthread_attr_t, which has at most 64 bytes.
 #[repr(C, align(16))]
 struct Attributes([u8; 64]);
+
+/// A stack at the start of a page.
+#[repr(C, align(4096))]
+struct Stack([u8; STACK]);
 
 extern "C" {
     fn pthread_attr_init(attributes: *mut Attributes) -> i32;
@@ -33,20 +38,19 @@ extern "C" fn start(call: *mut c_void) -> *mut c_void {
     std::ptr::null_mut()
 }
 
-/// The bytes of a thread's stack that are used where it makes this call.
-fn used(mut call: &mut dyn FnMut()) -> usize {
-    let mut stack = vec![u128::from_ne_bytes([FILL; 16]); STACK / 16];
+/// The lowest address of a thread's stack that is used where it makes this call.
+fn deepest(mut call: &mut dyn FnMut()) -> usize {
+    let mut stack = Box::new(Stack([FILL; STACK]));
     let mut attributes = Attributes([0; 64]);
     let (mut thread, mut returned) = (0, std::ptr::null_mut());
     unsafe {
         assert_eq!(pthread_attr_init(&mut attributes), 0);
-        assert_eq!(pthread_attr_setstack(&mut attributes, stack.as_mut_ptr().cast(), STACK), 0);
+        assert_eq!(pthread_attr_setstack(&mut attributes, stack.0.as_mut_ptr().cast(), STACK), 0);
         let argument: *mut &mut dyn FnMut() = &mut call;
         assert_eq!(pthread_create(&mut thread, &attributes, start, argument.cast()), 0);
         assert_eq!(pthread_join(thread, &mut returned), 0);
     }
-    let bytes = stack.iter().flat_map(|word| word.to_ne_bytes());
-    STACK - bytes.take_while(|&byte| byte == FILL).count()
+    stack.0.as_ptr() as usize + stack.0.iter().take_while(|&&byte| byte == FILL).count()
 }
 
 /// The calls of the header by name, each with the KB that it may use.
@@ -121,14 +125,17 @@ fn no_call_uses_more_stack_than_the_header_says() {
     let (a, page) = (answer.as_mut_ptr(), &log[12_288..12_544]);
     let (i, f) = (log.as_ptr(), faults.as_ptr());
     let mut measured = BTreeMap::new();
-    let nothing = used(&mut || {});
     macro_rules! measure {
         ($($call:ident($($argument:expr),*);)*) => {
             $({
-                let mut reply = u32::MAX;
-                let used = used(&mut || reply = unsafe { $call($($argument),*) });
+                let (mut reply, mut from) = (u32::MAX, 0);
+                let deepest = deepest(&mut || {
+                    let here = 0u8;
+                    from = black_box(&here) as *const u8 as usize;
+                    reply = unsafe { $call($($argument),*) };
+                });
                 assert_eq!(reply, 0, "{} is not refused", stringify!($call));
-                measured.insert(stringify!($call).to_string(), used - nothing);
+                measured.insert(stringify!($call).to_string(), from - deepest);
             })*
         };
     }
