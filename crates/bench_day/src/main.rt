@@ -2,7 +2,7 @@
 // after it. One script plays it on an erased log of 20,480 bytes; then each call that the writer or the scan answered is printed, the
 // pages that are on flash, and for each power-on the records that were logged and those that are missing. Records are numbered from 1.
 use blackbox::PageAnswer;
-use store::StoreAnswer;
+use laws::DoneAnswer;
 
 fn text(bytes: &[u8]) {
     io::write_all(1, bytes);
@@ -337,12 +337,12 @@ fn main() {
     brown_out(&mut script);
     evening(&mut script);
     match rig::play(20480, &mut image, &script, &mut output) {
-        StoreAnswer::Done => {
+        DoneAnswer::Done => {
             say_calls(&script, &output);
             say_pages(&image);
             say_power_ons(&image, &script, &output);
         }
-        StoreAnswer::Refused(refusal) => {
+        DoneAnswer::Refused(refusal) => {
             text(b"refused");
             number(refusal.number as u32);
             text(b"\n");

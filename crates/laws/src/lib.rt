@@ -1,4 +1,4 @@
-// The refusal numbers of document 01 by name, and the refusal that every answer holds. A caller can rely on it that
+// The refusal numbers of document 01 by name, the refusal that every answer holds, and the answers of more than one crate. A caller can rely on it that
 // no other crate of this project writes one of these numbers as a literal.
 // The laws on lists, numbers and bits that belong to no single crate stand in specs/ and proofs/ beside this file.
 ghost use mathlib.Core.Path.{_≡_};
@@ -42,6 +42,24 @@ pub const BAD_LENGTH: u8 = 17;
 pub struct Refusal {
     pub number: u8,
     pub fault: u8,
+}
+
+// A count, an address, a page or a flight.
+pub enum NumberAnswer {
+    Number(u32),
+    Refused(Refusal),
+}
+
+pub enum YesNoAnswer {
+    Yes,
+    No,
+    Refused(Refusal),
+}
+
+// What a call answers that gives no value.
+pub enum DoneAnswer {
+    Done,
+    Refused(Refusal),
 }
 
 // A refusal that has no fault byte.

@@ -4,23 +4,10 @@ use mathlib.Core.Path.{_≡_, refl}
 use mathlib.Core.Option.{Option, none, some}
 use Rattle.laws.specs.Answers.{Answer, gives, refuses, refusal}
 use Rattle.laws.proofs.ReadBack.{read-back}
-use Rattle.layout.specs.Layout.{told, toldAddress}
-use Rattle.layout.specs.Laws.{NumbersTell, AddressesTell}
-use Rattle.layout.specs.declared.NumberAnswer.{NumberAnswer}
-use Rattle.layout.specs.declared.NumberAnswer.the-variants.{Number, Refused}
+use Rattle.layout.specs.Layout.{toldAddress}
+use Rattle.layout.specs.Laws.{AddressesTell}
 use Rattle.layout.specs.declared.AddressAnswer.{AddressAnswer}
 use Rattle.layout.specs.declared.AddressAnswer.the-variants as Address
-
-abbrev number : Answer ℕ → NumberAnswer
-number (gives n) = Number n
-number (refuses n x) = Refused (refusal n x)
-
-same-number : (a : NumberAnswer) → number (told a) ≡ a
-same-number (Number n) = refl
-same-number (Refused r) = refl
-
-pub numbers-tell : NumbersTell
-numbers-tell = read-back told number same-number
 
 abbrev address : Answer (Option ℕ) → AddressAnswer
 address (gives (some a)) = Address.Address a

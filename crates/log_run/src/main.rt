@@ -1,11 +1,11 @@
 // Scans, searches, lists and acknowledges on small images of 20,480 bytes (16 log pages) that it lays itself, and prints each answer;
 // the file stdout beside src/ has what document 01 says must come out.
+use laws::DoneAnswer;
+use laws::YesNoAnswer;
 use log_search::FindAnswer;
 use log_search::StoredFlight;
-use log_sync::AckAnswer;
 use log_sync::Recording;
 use records::ScanAnswer;
-use records::TestAnswer;
 
 fn text(bytes: &[u8]) {
     io::write_all(1, bytes);
@@ -79,10 +79,10 @@ fn say_ack(
 ) {
     text(name);
     match log_sync::check_ack(20480, image, faults, 5, recording, flight_id, pages) {
-        AckAnswer::Accepted => {
+        DoneAnswer::Done => {
             text(b" accepted\n");
         }
-        AckAnswer::Refused(r) => refused(r.number, r.fault),
+        DoneAnswer::Refused(r) => refused(r.number, r.fault),
     }
 }
 
@@ -120,13 +120,13 @@ fn say_list(name: &[u8], image: &[u8], faults: &[u8], used: u32) {
 fn say_all(name: &[u8], image: &[u8], faults: &[u8], used: u32, recording: Recording) {
     text(name);
     match log_sync::all_synced(20480, image, faults, used, recording) {
-        TestAnswer::Passes => {
+        YesNoAnswer::Yes => {
             text(b" yes\n");
         }
-        TestAnswer::Fails => {
+        YesNoAnswer::No => {
             text(b" no\n");
         }
-        TestAnswer::Refused(r) => refused(r.number, r.fault),
+        YesNoAnswer::Refused(r) => refused(r.number, r.fault),
     }
 }
 

@@ -1,12 +1,12 @@
 // Walks the acknowledgement of flight 9 on images of 20,480 bytes whose ledger is Foreign, Blank, Blank over a used
 // bitmap, Valid, and Valid with a device whose first program fails; prints each planned step, what it answers, and what
 // is_synced says then.
+use laws::DoneAnswer;
 use laws::Refusal;
+use laws::YesNoAnswer;
 use libc::STDOUT_FILENO;
-use store::StoreAnswer;
 use sync_ledger::MarkStep;
 use sync_ledger::StepAnswer;
-use sync_ledger::SyncedAnswer;
 
 const CAPACITY: u32 = 20480;
 
@@ -51,12 +51,12 @@ fn say_step(step: MarkStep) {
     }
 }
 
-fn say_answer(answer: StoreAnswer) {
+fn say_answer(answer: DoneAnswer) {
     match answer {
-        StoreAnswer::Done => {
+        DoneAnswer::Done => {
             say(b": ok, ");
         }
-        StoreAnswer::Refused(refusal) => {
+        DoneAnswer::Refused(refusal) => {
             say(b": ");
             say_refusal(refusal);
             say(b", ");
@@ -64,15 +64,15 @@ fn say_answer(answer: StoreAnswer) {
     }
 }
 
-fn say_synced(answer: SyncedAnswer) {
+fn say_synced(answer: YesNoAnswer) {
     match answer {
-        SyncedAnswer::Synced => {
+        YesNoAnswer::Yes => {
             say(b"synced\n");
         }
-        SyncedAnswer::NotSynced => {
+        YesNoAnswer::No => {
             say(b"not synced\n");
         }
-        SyncedAnswer::Refused(refusal) => {
+        YesNoAnswer::Refused(refusal) => {
             say_refusal(refusal);
             say(b"\n");
         }

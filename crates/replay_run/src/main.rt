@@ -3,25 +3,23 @@
 // the rig plays from the image on which it began.
 use blackbox::FlightRecord;
 use blackbox::PageAnswer;
+use laws::DoneAnswer;
+use laws::NumberAnswer;
 use laws::Refusal;
+use laws::YesNoAnswer;
 use layout::AddressAnswer;
 use layout::LayoutAnswer;
-use layout::NumberAnswer;
 use layout::StorageLayout;
 use log_search::FindAnswer;
 use log_search::StoredFlight;
-use log_sync::AckAnswer;
 use log_sync::Recording;
 use records::FlightAnswer;
 use records::ScanAnswer;
-use records::TestAnswer;
-use store::StoreAnswer;
 use sync_ledger::BitAnswer;
 use sync_ledger::HeaderAnswer;
 use sync_ledger::LedgerHeader;
 use sync_ledger::MarkStep;
 use sync_ledger::StepAnswer;
-use sync_ledger::SyncedAnswer;
 
 // ---- a line
 
@@ -230,11 +228,11 @@ fn say_find(answer: FindAnswer) {
     }
 }
 
-fn say_test(answer: TestAnswer) {
+fn say_yes_no(answer: YesNoAnswer) {
     match answer {
-        TestAnswer::Refused(refusal) => say_refused(refusal),
-        TestAnswer::Passes => say_flag(true),
-        TestAnswer::Fails => say_flag(false),
+        YesNoAnswer::Refused(refusal) => say_refused(refusal),
+        YesNoAnswer::Yes => say_flag(true),
+        YesNoAnswer::No => say_flag(false),
     }
 }
 
@@ -306,14 +304,6 @@ fn say_header(answer: HeaderAnswer) {
     }
 }
 
-fn say_synced(answer: SyncedAnswer) {
-    match answer {
-        SyncedAnswer::Refused(refusal) => say_refused(refusal),
-        SyncedAnswer::Synced => say_flag(true),
-        SyncedAnswer::NotSynced => say_flag(false),
-    }
-}
-
 fn say_mark(kind: u8, address: u32, value: u8) {
     let mut row = [0u8; 6];
     row[0] = kind;
@@ -334,17 +324,10 @@ fn say_plan(answer: StepAnswer) {
     }
 }
 
-fn say_store(answer: StoreAnswer) {
+fn say_done(answer: DoneAnswer) {
     match answer {
-        StoreAnswer::Done => say_number(0),
-        StoreAnswer::Refused(refusal) => say_refused(refusal),
-    }
-}
-
-fn say_ack(answer: AckAnswer) {
-    match answer {
-        AckAnswer::Accepted => say_number(0),
-        AckAnswer::Refused(refusal) => say_refused(refusal),
+        DoneAnswer::Done => say_number(0),
+        DoneAnswer::Refused(refusal) => say_refused(refusal),
     }
 }
 
@@ -569,7 +552,7 @@ fn ledger(line: &[u8], c: u32, image: &[u8], faults: &[u8]) -> bool {
         return true;
     }
     if is_word(line, b"synced") {
-        say_synced(sync_ledger::is_synced(c, image, faults, num(line, 0)));
+        say_yes_no(sync_ledger::is_synced(c, image, faults, num(line, 0)));
         return true;
     }
     if is_word(line, b"plan") {
@@ -599,11 +582,11 @@ fn syncs(line: &[u8], c: u32, image: &[u8], faults: &[u8]) -> bool {
         return true;
     }
     if is_word(line, b"all") {
-        say_test(log_sync::all_synced(c, image, faults, num(line, 0), now));
+        say_yes_no(log_sync::all_synced(c, image, faults, num(line, 0), now));
         return true;
     }
     if is_word(line, b"ack") {
-        say_ack(log_sync::check_ack(
+        say_done(log_sync::check_ack(
             c,
             image,
             faults,
@@ -665,7 +648,7 @@ fn steps(line: &[u8], c: u32, image: &mut [u8]) -> bool {
     }
     let keep = mask_number(num(line, 3));
     let step = step_of(num(line, 0), num(line, 1), byte(line, 2));
-    say_store(sync_ledger::start_mark_step(c, image, step, &keep, byte(line, 4)));
+    say_done(sync_ledger::start_mark_step(c, image, step, &keep, byte(line, 4)));
     true
 }
 
@@ -809,8 +792,8 @@ fn say_last(told: &[u8]) {
 
 fn play_rows(c: u32, image: &mut [u8], script: &[u8], told: &mut [u8]) {
     match rig::play(c, image, script, told) {
-        StoreAnswer::Refused(refusal) => say_refused(refusal),
-        StoreAnswer::Done => say_last(told),
+        DoneAnswer::Refused(refusal) => say_refused(refusal),
+        DoneAnswer::Done => say_last(told),
     }
 }
 

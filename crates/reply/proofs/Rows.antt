@@ -10,14 +10,13 @@ use lib.Dec.{eqb}
 use lib.ListN.{length, take, drop, length-append, length-drop, drop-of-length-le}
 use lib.Seq.{take-at, take-length}
 use Rattle.laws.specs.Refusals.{invalidLayout, badLength}
-use Rattle.laws.specs.Answers.{Answer, gives, refuses, refusal, must}
+use Rattle.laws.specs.Answers.{Answer, gives, refuses, refusal, must, toldDone}
 use Rattle.laws.specs.declared.Refusal.{Refusal}
 use Rattle.words.specs.Words.{placed, leBytes}
 use Rattle.words.proofs.Numbers.{placed-fits}
 use Rattle.store.specs.Store.{leaves}
-use Rattle.store.specs.Store as Store
-use Rattle.store.specs.declared.StoreAnswer.{StoreAnswer}
-use Rattle.store.specs.declared.StoreAnswer.the-variants as Stored
+use Rattle.laws.specs.declared.DoneAnswer.{DoneAnswer}
+use Rattle.laws.specs.declared.DoneAnswer.the-variants as Done
 use Rattle.reply.specs.Reply.{replyOf, laid, rowed, heldAs, optionRow}
 
 -- the end of a call: what it returns, and what it leaves in the row
@@ -30,7 +29,7 @@ ends e = (e .returned, e .left)
 
 -- ---- done
 
-pub done-refused : (a : StoreAnswer) (x : Refusal) (r : ℕ) → a ≡ Stored.Refused x → r ≡ x .number + 256 * x .fault → r ≡ replyOf (Store.told a)
+pub done-refused : (a : DoneAnswer) (x : Refusal) (r : ℕ) → a ≡ Done.Refused x → r ≡ x .number + 256 * x .fault → r ≡ replyOf (toldDone a)
 done-refused a x r w h = rw w h
 
 -- ---- refuse

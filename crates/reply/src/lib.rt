@@ -1,13 +1,12 @@
 // How a C call answers: one number that carries the refusal and its fault byte, and a lent row of bytes of one length that holds the
 // value. A caller can rely on it that the row is written whole where nothing is refused, and else left as it was.
+use laws::DoneAnswer;
 use laws::Refusal;
-use store::StoreAnswer;
 ghost use mathlib.Core.Path.{_≡_};
 ghost use Prim.Native.Nat.{_+_, _*_};
 ghost use mathlib.Core.List.{_++_};
 ghost use lib.ListN.{length};
-ghost use Rattle.laws.specs.Answers.{gives, refuses};
-ghost use Rattle.store.specs.Store as Store;
+ghost use Rattle.laws.specs.Answers.{gives, refuses, toldDone};
 ghost use Rattle.reply.specs.Reply.{isSet, flagOf, replyOf, rowed, rowReply, rowAfter, numberRow, someRow};
 
 // A flag as C hands it in: 0 is false, any other value is true.
@@ -96,11 +95,11 @@ pub fn some_row(n: u32) -> [u8; 5]
 }
 
 // What a call returns that has no value.
-pub fn done(a: StoreAnswer) -> u32
-    ensures { λ r. ⌜ r ≡ replyOf (Store.told a) ⌝ }
+pub fn done(a: DoneAnswer) -> u32
+    ensures { λ r. ⌜ r ≡ replyOf (toldDone a) ⌝ }
 {
     match a {
-        StoreAnswer::Done => 0,
-        StoreAnswer::Refused(refusal) => reply_of(refusal),
+        DoneAnswer::Done => 0,
+        DoneAnswer::Refused(refusal) => reply_of(refusal),
     }
 }

@@ -10,13 +10,13 @@ use lib.Dec.{eqb, leb, ltb}
 use lib.ListN.{length, getD, take, drop, length-drop}
 use lib.Seq.{length-take-le, drop-drop}
 use Rattle.laws.specs.Refusals.{invalidRecordCount, invalidMagic, unsupportedVersion, crcMismatch, invalidLayout, badLength}
-use Rattle.laws.specs.Answers.{Answer, gives, refuses, must, then}
+use Rattle.laws.specs.Answers.{Answer, gives, refuses, must, then, toldNumber}
 use Rattle.laws.specs.declared.Refusal.{Refusal}
 use Rattle.words.specs.Words.{leBytes, u32At, sameBytes}
 use Rattle.crc32.specs.Crc.{crc32Of}
-use Rattle.layout.specs.Layout.{told, toldAddress, layout, layoutOf, layoutAnswer, logStart, pagesIn, validCapacity}
-use Rattle.layout.specs.declared.NumberAnswer.{NumberAnswer}
-use Rattle.layout.specs.declared.NumberAnswer.the-variants as Number
+use Rattle.layout.specs.Layout.{toldAddress, layout, layoutOf, layoutAnswer, logStart, pagesIn, validCapacity}
+use Rattle.laws.specs.declared.NumberAnswer.{NumberAnswer}
+use Rattle.laws.specs.declared.NumberAnswer.the-variants as Number
 use Rattle.layout.specs.declared.AddressAnswer.{AddressAnswer}
 use Rattle.layout.specs.declared.AddressAnswer.the-variants as Address
 use Rattle.layout.specs.declared.StorageLayout.{StorageLayout}
@@ -33,11 +33,11 @@ use Rattle.blackbox.specs.declared.PageAnswer.the-variants as Pages
 use Rattle.reply.specs.Reply.{heldAs}
 use Rattle.reply_codec.specs.CodecRows.{layoutRow, metadataRow, toldLayout, toldRecord, toldPage, encodedRows}
 
-pub number-refused : (a : NumberAnswer) (x : Refusal) → a ≡ Number.Refused x → told a ≡ refuses (x .number) (x .fault)
-number-refused a x w = ap told w
+pub number-refused : (a : NumberAnswer) (x : Refusal) → a ≡ Number.Refused x → toldNumber a ≡ refuses (x .number) (x .fault)
+number-refused a x w = ap toldNumber w
 
-pub number-given : (a : NumberAnswer) (n : ℕ) → a ≡ Number.Number n → told a ≡ gives n
-number-given a n w = ap told w
+pub number-given : (a : NumberAnswer) (n : ℕ) → a ≡ Number.Number n → toldNumber a ≡ gives n
+number-given a n w = ap toldNumber w
 
 pub address-refused : (a : AddressAnswer) (x : Refusal) → a ≡ Address.Refused x → toldAddress a ≡ refuses (x .number) (x .fault)
 address-refused a x w = ap toldAddress w

@@ -4,23 +4,23 @@ use blackbox::FlightRecord;
 use blackbox::PageAnswer;
 use blackbox::PageMetadata;
 use blackbox::RecordAnswer;
+use laws::NumberAnswer;
 use layout::AddressAnswer;
 use layout::LayoutAnswer;
-use layout::NumberAnswer;
 use layout::StorageLayout;
 ghost use mathlib.Core.Path.{_≡_};
 ghost use Prim.Native.Nat.{_+_, _≤_};
 ghost use lib.ListN.{length, take, drop};
-ghost use Rattle.laws.specs.Answers.{gives};
-ghost use Rattle.layout.specs.Layout.{told, toldAddress};
+ghost use Rattle.laws.specs.Answers.{gives, toldNumber};
+ghost use Rattle.layout.specs.Layout.{toldAddress};
 ghost use Rattle.blackbox.specs.Record.{recordBytes, recordOf};
 ghost use Rattle.blackbox.specs.Page as Page;
 ghost use Rattle.reply.specs.Reply.{rowReply, rowAfter, laid, numberRow, optionRow};
 ghost use Rattle.reply_codec.specs.CodecRows.{layoutRow, metadataRow, asIs, toldLayout, toldRecord, toldPage, encodedRows};
 
 pub fn lay_number(a: NumberAnswer, answer: &mut [u8]) -> u32
-    ensures { λ r. ⌜ r ≡ rowReply 4 (now (answer .entry)) (laid numberRow (told a)) ⌝ }
-    ensures { λ _. ⌜ now (answer .exit) ≡ rowAfter 4 (now (answer .entry)) (laid numberRow (told a)) ⌝ }
+    ensures { λ r. ⌜ r ≡ rowReply 4 (now (answer .entry)) (laid numberRow (toldNumber a)) ⌝ }
+    ensures { λ _. ⌜ now (answer .exit) ≡ rowAfter 4 (now (answer .entry)) (laid numberRow (toldNumber a)) ⌝ }
 {
     match a {
         NumberAnswer::Refused(refusal) => reply::refuse(refusal, answer.len(), 4),

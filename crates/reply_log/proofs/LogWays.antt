@@ -1,19 +1,19 @@
 -- What each answer of scan, search, ledger and log sync tells, case by case, and how long its row is. Assumes nothing.
-use Prim.Native.Nat.{ℕ, _+_, _*_}
+use Prim.Native.Nat.{ℕ}
 use mathlib.Core.Path.{_≡_, refl, sym, ap, _∙_}
 use mathlib.Core.Bool.{Bool, true, false}
 use mathlib.Core.Option.{Option, none, some}
 use mathlib.Core.List.{List, [], _∷_}
 use borrow.Author.Tests.{eq-eqb, ne-eqb}
 use lib.ListN.{length, replicate}
-use Rattle.laws.specs.Answers.{Answer, gives, refuses}
+use Rattle.laws.specs.Answers.{Answer, gives, refuses, toldYesNo}
 use Rattle.laws.specs.declared.Refusal.{Refusal}
 use Rattle.words.specs.Words.{leBytes}
-use Rattle.records.specs.Pages.{toldTest, toldFlight}
+use Rattle.records.specs.Pages.{toldFlight}
 use Rattle.records.specs.Scan.{toldScan}
 use Rattle.records.specs.declared.Scan.{Scan}
 use Rattle.records.specs.declared.PageFlight.{PageFlight}
-use Rattle.sync_ledger.specs.Ledger.{toldHeader, toldBit, toldSynced, toldStep}
+use Rattle.sync_ledger.specs.Ledger.{toldHeader, toldBit, toldStep}
 use Rattle.sync_ledger.specs.declared.LedgerHeader.{LedgerHeader}
 use Rattle.sync_ledger.specs.declared.LedgerHeader.the-variants as Header
 use Rattle.sync_ledger.specs.declared.BitLocation.{BitLocation}
@@ -21,28 +21,23 @@ use Rattle.sync_ledger.specs.declared.MarkStep.{MarkStep}
 use Rattle.sync_ledger.specs.declared.MarkStep.the-variants as Mark
 use Rattle.log_search.specs.Search.{toldFind}
 use Rattle.log_search.specs.declared.StoredFlight.{StoredFlight}
-use Rattle.log_sync.specs.Sync.{toldAck}
 use Rattle.log_sync.specs.declared.Recording.{Recording}
 use Rattle.log_sync.specs.declared.Recording.the-variants as Recorded
-use Rattle.log_sync.specs.declared.AckAnswer.{AckAnswer}
-use Rattle.log_sync.specs.declared.AckAnswer.the-variants as Ack
 use Rattle.records.specs.declared.ScanAnswer.{ScanAnswer}
 use Rattle.records.specs.declared.ScanAnswer.the-variants as ScanAnswers
 use Rattle.records.specs.declared.FlightAnswer.{FlightAnswer}
 use Rattle.records.specs.declared.FlightAnswer.the-variants as FlightAnswers
 use Rattle.log_search.specs.declared.FindAnswer.{FindAnswer}
 use Rattle.log_search.specs.declared.FindAnswer.the-variants as FindAnswers
-use Rattle.records.specs.declared.TestAnswer.{TestAnswer}
-use Rattle.records.specs.declared.TestAnswer.the-variants as TestAnswers
-use Rattle.sync_ledger.specs.declared.SyncedAnswer.{SyncedAnswer}
-use Rattle.sync_ledger.specs.declared.SyncedAnswer.the-variants as SyncedAnswers
+use Rattle.laws.specs.declared.YesNoAnswer.{YesNoAnswer}
+use Rattle.laws.specs.declared.YesNoAnswer.the-variants as YesNo
 use Rattle.sync_ledger.specs.declared.HeaderAnswer.{HeaderAnswer}
 use Rattle.sync_ledger.specs.declared.HeaderAnswer.the-variants as HeaderAnswers
 use Rattle.sync_ledger.specs.declared.BitAnswer.{BitAnswer}
 use Rattle.sync_ledger.specs.declared.BitAnswer.the-variants as BitAnswers
 use Rattle.sync_ledger.specs.declared.StepAnswer.{StepAnswer}
 use Rattle.sync_ledger.specs.declared.StepAnswer.the-variants as StepAnswers
-use Rattle.reply.specs.Reply.{isSet, replyOf}
+use Rattle.reply.specs.Reply.{isSet}
 use Rattle.reply_log.specs.LogRows.{scanRow, flightRow, storedRow, foundRow, headerRow, bitRow, stepNumbers, stepRow, stepOf, recordingIf, recordingOf}
 
 pub scan-refused : (a : ScanAnswer) (x : Refusal) → a ≡ ScanAnswers.Refused x → toldScan a ≡ refuses (x .number) (x .fault)
@@ -69,23 +64,14 @@ find-none a w = ap toldFind w
 pub find-given : (a : FindAnswer) (f : StoredFlight) → a ≡ FindAnswers.Found f → toldFind a ≡ gives (some f)
 find-given a f w = ap toldFind w
 
-pub test-refused : (a : TestAnswer) (x : Refusal) → a ≡ TestAnswers.Refused x → toldTest a ≡ refuses (x .number) (x .fault)
-test-refused a x w = ap toldTest w
+pub yes-no-refused : (a : YesNoAnswer) (x : Refusal) → a ≡ YesNo.Refused x → toldYesNo a ≡ refuses (x .number) (x .fault)
+yes-no-refused a x w = ap toldYesNo w
 
-pub test-passes : (a : TestAnswer) → a ≡ TestAnswers.Passes → toldTest a ≡ gives true
-test-passes a w = ap toldTest w
+pub yes-given : (a : YesNoAnswer) → a ≡ YesNo.Yes → toldYesNo a ≡ gives true
+yes-given a w = ap toldYesNo w
 
-pub test-fails : (a : TestAnswer) → a ≡ TestAnswers.Fails → toldTest a ≡ gives false
-test-fails a w = ap toldTest w
-
-pub synced-refused : (a : SyncedAnswer) (x : Refusal) → a ≡ SyncedAnswers.Refused x → toldSynced a ≡ refuses (x .number) (x .fault)
-synced-refused a x w = ap toldSynced w
-
-pub synced-is : (a : SyncedAnswer) → a ≡ SyncedAnswers.Synced → toldSynced a ≡ gives true
-synced-is a w = ap toldSynced w
-
-pub synced-not : (a : SyncedAnswer) → a ≡ SyncedAnswers.NotSynced → toldSynced a ≡ gives false
-synced-not a w = ap toldSynced w
+pub no-given : (a : YesNoAnswer) → a ≡ YesNo.No → toldYesNo a ≡ gives false
+no-given a w = ap toldYesNo w
 
 pub header-refused : (a : HeaderAnswer) (x : Refusal) → a ≡ HeaderAnswers.Refused x → toldHeader a ≡ refuses (x .number) (x .fault)
 header-refused a x w = ap toldHeader w
@@ -104,9 +90,6 @@ step-refused a x w = ap toldStep w
 
 pub step-given : (a : StepAnswer) (s : MarkStep) → a ≡ StepAnswers.Step s → toldStep a ≡ gives s
 step-given a s w = ap toldStep w
-
-pub ack-refused : (a : AckAnswer) (x : Refusal) (r : ℕ) → a ≡ Ack.Refused x → r ≡ x .number + 256 * x .fault → r ≡ replyOf (toldAck a)
-ack-refused a x r w h = rw w h
 
 -- ---- the length of a row
 

@@ -1,29 +1,26 @@
 // The answers of scan, search, ledger and log sync as C calls give them: a number and a row of bytes, by the rules of `reply`; and
 // what the numbers stand for that these calls are handed.
+use laws::YesNoAnswer;
 use log_search::FindAnswer;
 use log_search::StoredFlight;
-use log_sync::AckAnswer;
 use log_sync::Recording;
 use records::FlightAnswer;
 use records::Scan;
 use records::ScanAnswer;
-use records::TestAnswer;
 use sync_ledger::BitAnswer;
 use sync_ledger::BitLocation;
 use sync_ledger::HeaderAnswer;
 use sync_ledger::LedgerHeader;
 use sync_ledger::MarkStep;
 use sync_ledger::StepAnswer;
-use sync_ledger::SyncedAnswer;
 ghost use mathlib.Core.Path.{_≡_};
 ghost use mathlib.Core.List.{_∷_};
-ghost use Rattle.laws.specs.Answers.{gives};
-ghost use Rattle.records.specs.Pages.{toldTest, toldFlight};
+ghost use Rattle.laws.specs.Answers.{gives, toldYesNo};
+ghost use Rattle.records.specs.Pages.{toldFlight};
 ghost use Rattle.records.specs.Scan.{toldScan};
-ghost use Rattle.sync_ledger.specs.Ledger.{toldHeader, toldBit, toldSynced, toldStep};
+ghost use Rattle.sync_ledger.specs.Ledger.{toldHeader, toldBit, toldStep};
 ghost use Rattle.log_search.specs.Search.{toldFind};
-ghost use Rattle.log_sync.specs.Sync.{toldAck};
-ghost use Rattle.reply.specs.Reply.{replyOf, rowReply, rowAfter, laid};
+ghost use Rattle.reply.specs.Reply.{rowReply, rowAfter, laid};
 ghost use Rattle.reply_log.specs.LogRows.{scanRow, flightRow, storedRow, foundRow, flagRow, headerRow, bitRow, stepNumbers, stepRow};
 ghost use Rattle.reply_log.specs.LogRows.{stepOf, recordingOf};
 
@@ -136,25 +133,14 @@ fn give_flag(b: bool, answer: &mut [u8]) -> u32
     reply::give(answer, &row)
 }
 
-pub fn lay_test(a: TestAnswer, answer: &mut [u8]) -> u32
-    ensures { λ r. ⌜ r ≡ rowReply 1 (now (answer .entry)) (laid flagRow (toldTest a)) ⌝ }
-    ensures { λ _. ⌜ now (answer .exit) ≡ rowAfter 1 (now (answer .entry)) (laid flagRow (toldTest a)) ⌝ }
+pub fn lay_yes_no(a: YesNoAnswer, answer: &mut [u8]) -> u32
+    ensures { λ r. ⌜ r ≡ rowReply 1 (now (answer .entry)) (laid flagRow (toldYesNo a)) ⌝ }
+    ensures { λ _. ⌜ now (answer .exit) ≡ rowAfter 1 (now (answer .entry)) (laid flagRow (toldYesNo a)) ⌝ }
 {
     match a {
-        TestAnswer::Refused(refusal) => reply::refuse(refusal, answer.len(), 1),
-        TestAnswer::Passes => give_flag(true, answer),
-        TestAnswer::Fails => give_flag(false, answer),
-    }
-}
-
-pub fn lay_synced(a: SyncedAnswer, answer: &mut [u8]) -> u32
-    ensures { λ r. ⌜ r ≡ rowReply 1 (now (answer .entry)) (laid flagRow (toldSynced a)) ⌝ }
-    ensures { λ _. ⌜ now (answer .exit) ≡ rowAfter 1 (now (answer .entry)) (laid flagRow (toldSynced a)) ⌝ }
-{
-    match a {
-        SyncedAnswer::Refused(refusal) => reply::refuse(refusal, answer.len(), 1),
-        SyncedAnswer::Synced => give_flag(true, answer),
-        SyncedAnswer::NotSynced => give_flag(false, answer),
+        YesNoAnswer::Refused(refusal) => reply::refuse(refusal, answer.len(), 1),
+        YesNoAnswer::Yes => give_flag(true, answer),
+        YesNoAnswer::No => give_flag(false, answer),
     }
 }
 
@@ -256,14 +242,4 @@ pub fn recording_of(flag: u8, flight: u32) -> Recording
         return Recording::Flight(flight);
     }
     Recording::Nothing
-}
-
-// What an acknowledgement returns.
-pub fn acknowledged(a: AckAnswer) -> u32
-    ensures { λ r. ⌜ r ≡ replyOf (toldAck a) ⌝ }
-{
-    match a {
-        AckAnswer::Accepted => 0,
-        AckAnswer::Refused(refusal) => reply::reply_of(refusal),
-    }
 }

@@ -10,14 +10,14 @@ use borrow.Author.Tests.{eq-eqb, ne-eqb, not-true, not-false}
 use lib.Dec.{eqb}
 use lib.ListN.{length, take, drop, length-append}
 use lib.Seq.{take-all, length-take-le, take-length, take-at}
-use Rattle.laws.specs.Answers.{Answer, gives, refuses, must, refusal}
+use Rattle.laws.specs.Answers.{Answer, gives, refuses, must, refusal, toldDone}
 use Rattle.laws.specs.Refusals.{badLength}
 use Rattle.laws.specs.declared.Refusal.{Refusal}
 use Rattle.words.specs.Words.{leBytes, placed}
 use Rattle.words.proofs.Numbers.{placed-fits}
-use Rattle.store.specs.Store.{told, leaves, onImage}
-use Rattle.store.specs.declared.StoreAnswer.{StoreAnswer}
-use Rattle.store.specs.declared.StoreAnswer.the-variants.{Done, Refused}
+use Rattle.store.specs.Store.{leaves, onImage}
+use Rattle.laws.specs.declared.DoneAnswer.{DoneAnswer}
+use Rattle.laws.specs.declared.DoneAnswer.the-variants.{Done, Refused}
 use Rattle.store.proofs.Checks.{on-image, image-refused, image-held}
 use Rattle.script.specs.Script.{Operation, operationIn, rowAt, rowsIn, operationsFrom, operations, isScript}
 use Rattle.rig.specs.Rig.{unpowered, played, imageAfter, tellsOf, playsImage, tells, onScript, playTold, afterPlay, outputAfter}
@@ -144,12 +144,12 @@ module _ (c : ℕ) (image script output : List ℕ) where
       Ends a (playTold c image script output) image′ (afterPlay c image script output) output′ (outputAfter c image script output)
 
   refused-ends : (x : Refusal) → ((A : Type 0) (rest : Answer A) → refuses (x .number) (x .fault) ≡ tested A rest)
-      → Ended (told (Refused x)) image output
+      → Ended (toldDone (Refused x)) image output
   refused-ends x e =
       record { answer = e (Unit {0}) _; left = ap (leaves image) (e (List ℕ) _); tells = ap (leaves output) (e (List ℕ) _) }
 
-  module _ (a : StoreAnswer) (e : told a ≡ onImage c (length image) (gives tt)) where
-    pub no-image : (x : Refusal) → a ≡ Refused x → Ended (told (Refused x)) image output
+  module _ (a : DoneAnswer) (e : toldDone a ≡ onImage c (length image) (gives tt)) where
+    pub no-image : (x : Refusal) → a ≡ Refused x → Ended (toldDone (Refused x)) image output
     unfolding onScript
     no-image x w = refused-ends x (λ A rest. image-refused c (length image) a e _ x w)
 
@@ -166,7 +166,7 @@ module _ (c : ℕ) (image script output : List ℕ) where
           → refuses (x .number) (x .fault) ≡ rest
       refused-as A x rest ex er = ap {B = Answer A} (λ (y : Refusal). refuses (y .number) (y .fault)) ex ∙ er
 
-      pub no-script : (x : Refusal) → not b ≡ true → x ≡ refusal badLength 0 → Ended (told (Refused x)) image output
+      pub no-script : (x : Refusal) → not b ≡ true → x ≡ refusal badLength 0 → Ended (toldDone (Refused x)) image output
       no-script x n ex =
           refused-ends x
           (λ A rest. refused-as A x (tested A rest) ex
@@ -178,7 +178,7 @@ module _ (c : ℕ) (image script output : List ℕ) where
             passed A rest ∙ ap (λ (t : Bool). must t badLength (fits A rest)) (sym eb ∙ not-false b n)
 
         pub other-output : (x : Refusal) → (length output ≡ rowsIn script * 40 → ⊥) → x ≡ refusal badLength 0
-            → Ended (told (Refused x)) image output
+            → Ended (toldDone (Refused x)) image output
         other-output x h ex =
             refused-ends x
             (λ A rest. refused-as A x (tested A rest) ex
@@ -186,7 +186,7 @@ module _ (c : ℕ) (image script output : List ℕ) where
 
         pub plays-it : (image′ output′ : List ℕ) → length output ≡ rowsIn script * 40
             → image′ ≡ playsImage c (operations script) unpowered image → output′ ≡ tells c (operations script) unpowered image
-            → Ended (told Done) image′ output′
+            → Ended (toldDone Done) image′ output′
         plays-it image′ output′ h em eo =
             record {
               answer = sym (all (Unit {0}) (gives tt));

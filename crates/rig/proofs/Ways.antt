@@ -5,13 +5,13 @@ use mathlib.Core.Bool.{Bool, true}
 use mathlib.Core.List.{List, []}
 use native.Mathlib.Omega.{arith}
 use lib.ListN.{length, getD, replicate, length-replicate}
-use Rattle.laws.specs.Answers.{gives}
+use Rattle.laws.specs.Answers.{gives, toldDone}
 use Rattle.laws.specs.declared.Refusal.{Refusal}
 use Rattle.words.specs.Words.{u32At}
 use Rattle.layout.specs.Layout.{pagesIn}
-use Rattle.store.specs.Store.{part, told, onImage, onLengths}
-use Rattle.store.specs.declared.StoreAnswer.{StoreAnswer}
-use Rattle.store.specs.declared.StoreAnswer.the-variants as Checked
+use Rattle.store.specs.Store.{part, onImage, onLengths}
+use Rattle.laws.specs.declared.DoneAnswer.{DoneAnswer}
+use Rattle.laws.specs.declared.DoneAnswer.the-variants as Done
 use Rattle.store.proofs.Checks.{on-lengths, image-refused, image-held}
 use Rattle.blackbox.specs.Record.{recordOf, recordDecoded, recordAnswer}
 use Rattle.blackbox.specs.declared.RecordAnswer.{RecordAnswer}
@@ -53,12 +53,12 @@ no-fault zero i = refl
 no-fault (suc n) zero = refl
 no-fault (suc n) (suc i) = no-fault n i
 
-module _ (c : ℕ) (image : List ℕ) (a : StoreAnswer) (e : told a ≡ onImage c (length image) (gives tt)) where
-  pub scan-refused : (x : Refusal) → a ≡ Checked.Refused x → toldScan (Answered.Refused x) ≡ scanned c image (noFaults c)
+module _ (c : ℕ) (image : List ℕ) (a : DoneAnswer) (e : toldDone a ≡ onImage c (length image) (gives tt)) where
+  pub scan-refused : (x : Refusal) → a ≡ Done.Refused x → toldScan (Answered.Refused x) ≡ scanned c image (noFaults c)
   unfolding scanned onLengths
   scan-refused x w = image-refused c (length image) a e _ x w
 
-  pub scan-made : (s : ScanAnswer) (pages : ℕ) → a ≡ Checked.Done → pages ≡ pagesIn c → toldScan s ≡ scanPages pages image []
+  pub scan-made : (s : ScanAnswer) (pages : ℕ) → a ≡ Done.Done → pages ≡ pagesIn c → toldScan s ≡ scanPages pages image []
       → toldScan s ≡ scanned c image (noFaults c)
   unfolding scanned
   scan-made s pages w ep es =

@@ -4,13 +4,13 @@
 // A caller can rely on it that what is done to the image is exactly what the script says, call by call.
 use assembler::UnfinishedFlight;
 use blackbox::FlightRecord;
+use laws::DoneAnswer;
 use log_state::LogWriter;
 use log_writer::DrainAnswer;
 use log_writer::PageWrite;
 use log_writer::WriteAnswer;
 use queue::RecordQueue;
 use records::ScanAnswer;
-use store::StoreAnswer;
 ghost use Prim.Native.Nat.{_+_, _*_, _^_, _<_};
 ghost use mathlib.Core.Path.{_≡_};
 ghost use mathlib.Core.Bool.{true};
@@ -18,7 +18,8 @@ ghost use mathlib.Core.List.{_++_};
 ghost use lib.ListN.{length, getD};
 ghost use Rattle.words.specs.Words.{leBytes, u32At, placed};
 ghost use Rattle.blackbox.specs.Record.{recordOf};
-ghost use Rattle.store.specs.Store.{told, part};
+ghost use Rattle.laws.specs.Answers.{toldDone};
+ghost use Rattle.store.specs.Store.{part};
 ghost use Rattle.records.specs.Scan.{toldScan, scanned};
 ghost use Rattle.assembler.specs.Assembler.{toldUnfinished};
 ghost use Rattle.queue.specs.Queue.{offered};
@@ -173,8 +174,8 @@ fn scan(capacity_bytes: u32, image: &[u8]) -> ScanAnswer
     ensures { λ r. ⌜ toldScan r ≡ scanned «capacity_bytes» (now (image .entry)) (noFaults «capacity_bytes») ⌝ }
 {
     match store::checked_image(capacity_bytes, image.len()) {
-        StoreAnswer::Refused(refusal) => ScanAnswer::Refused(refusal),
-        StoreAnswer::Done => records::scan_pages(
+        DoneAnswer::Refused(refusal) => ScanAnswer::Refused(refusal),
+        DoneAnswer::Done => records::scan_pages(
             records::page_count(capacity_bytes),
             image,
             &image[0..0],
@@ -398,22 +399,22 @@ fn play_rows(capacity_bytes: u32, image: &mut [u8], script: &[u8], output: &mut 
 
 // Plays a script on an image and tells 40 bytes for each of its rows. A capacity is refused 5; an image that has not its length, a script
 // that is malformed and an output that has not 40 bytes for each row are refused 17.
-pub fn play(capacity_bytes: u32, image: &mut [u8], script: &[u8], output: &mut [u8]) -> StoreAnswer
-    ensures { λ r. ⌜ told r ≡ playTold «capacity_bytes» (now (image .entry)) (now (script .entry)) (now (output .entry)) ⌝ }
+pub fn play(capacity_bytes: u32, image: &mut [u8], script: &[u8], output: &mut [u8]) -> DoneAnswer
+    ensures { λ r. ⌜ toldDone r ≡ playTold «capacity_bytes» (now (image .entry)) (now (script .entry)) (now (output .entry)) ⌝ }
     ensures { λ _. ⌜ now (image .exit) ≡ afterPlay «capacity_bytes» (now (image .entry)) (now (script .entry)) (now (output .entry)) ⌝ }
     ensures { λ _. ⌜ now (output .exit) ≡ outputAfter «capacity_bytes» (now (image .entry)) (now (script .entry)) (now (output .entry)) ⌝ }
 {
     match store::checked_image(capacity_bytes, image.len()) {
-        StoreAnswer::Refused(refusal) => StoreAnswer::Refused(refusal),
-        StoreAnswer::Done => {
+        DoneAnswer::Refused(refusal) => DoneAnswer::Refused(refusal),
+        DoneAnswer::Done => {
             if !script::is_script(script) {
-                return StoreAnswer::Refused(laws::refused(laws::BAD_LENGTH));
+                return DoneAnswer::Refused(laws::refused(laws::BAD_LENGTH));
             }
             if output.len() != script.len() / script::ROW_LEN * TELL_LEN {
-                return StoreAnswer::Refused(laws::refused(laws::BAD_LENGTH));
+                return DoneAnswer::Refused(laws::refused(laws::BAD_LENGTH));
             }
             play_rows(capacity_bytes, image, script, output);
-            StoreAnswer::Done
+            DoneAnswer::Done
         }
     }
 }

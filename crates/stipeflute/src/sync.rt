@@ -44,7 +44,7 @@ pub extern "C" fn stipeflute_is_synced(
     ensures { λ r. ⌜ r ≡ rowReply 1 (now (answer .entry)) (laid flagRow (isSynced «capacity_bytes» (now (image .entry)) (now (faults .entry)) «flight_id»)) ⌝ }
     ensures { λ _. ⌜ now (answer .exit) ≡ rowAfter 1 (now (answer .entry)) (laid flagRow (isSynced «capacity_bytes» (now (image .entry)) (now (faults .entry)) «flight_id»)) ⌝ }
 {
-    reply_log::lay_synced(
+    reply_log::lay_yes_no(
         sync_ledger::is_synced(capacity_bytes, image, faults, flight_id),
         answer,
     )
@@ -98,7 +98,7 @@ pub extern "C" fn stipeflute_all_synced(
     ensures { λ _. ⌜ now (answer .exit) ≡ rowAfter 1 (now (answer .entry)) (laid flagRow (allSynced «capacity_bytes» (now (image .entry)) (now (faults .entry)) «used_pages» (recordingOf «is_recording» recording))) ⌝ }
 {
     let recorded = reply_log::recording_of(is_recording, recording);
-    reply_log::lay_test(
+    reply_log::lay_yes_no(
         log_sync::all_synced(capacity_bytes, image, faults, used_pages, recorded),
         answer,
     )
@@ -118,7 +118,7 @@ pub extern "C" fn stipeflute_check_ack(
     ensures { λ r. ⌜ r ≡ replyOf (ackChecked «capacity_bytes» (now (image .entry)) (now (faults .entry)) «used_pages» (recordingOf «is_recording» recording) «flight_id» pages) ⌝ }
 {
     let recorded = reply_log::recording_of(is_recording, recording);
-    reply_log::acknowledged(log_sync::check_ack(
+    reply::done(log_sync::check_ack(
         capacity_bytes,
         image,
         faults,

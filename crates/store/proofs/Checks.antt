@@ -6,13 +6,13 @@ use native.Mathlib.Omega.{arith}
 use borrow.Author.Tests.{eq-eqb, ne-eqb, le-leb, lt-leb, lt-ltb, eqb-true, leb-true, ltb-true, not-true, not-false}
 use lib.Dec.{eqb, leb, ltb}
 use Rattle.laws.specs.Refusals.{invalidLayout, badLength}
-use Rattle.laws.specs.Answers.{Answer, gives, refuses, refusal, must}
+use Rattle.laws.specs.Answers.{Answer, gives, refuses, refusal, must, toldDone}
 use Rattle.laws.specs.declared.Refusal.{Refusal}
 use Rattle.laws.proofs.Chain.{no-refusal, passed}
 use Rattle.layout.specs.Layout.{validCapacity}
-use Rattle.store.specs.Store.{told, onImage, onLengths, inOnePage, isSector}
-use Rattle.store.specs.declared.StoreAnswer.{StoreAnswer}
-use Rattle.store.specs.declared.StoreAnswer.the-variants.{Done, Refused}
+use Rattle.store.specs.Store.{onImage, onLengths, inOnePage, isSector}
+use Rattle.laws.specs.declared.DoneAnswer.{DoneAnswer}
+use Rattle.laws.specs.declared.DoneAnswer.the-variants.{Done, Refused}
 
 -- ---- the chain itself
 
@@ -68,52 +68,52 @@ refused-lengths c n l w one rest x y e = three-tests one rest (validCapacity c) 
 
 -- ---- checked_image
 
-told-refused : {r : Refusal} {n : ℕ} {a : Answer (Unit {0})} → r ≡ refusal n 0 → refuses n 0 ≡ a → told (Refused r) ≡ a
+told-refused : {r : Refusal} {n : ℕ} {a : Answer (Unit {0})} → r ≡ refusal n 0 → refuses n 0 ≡ a → toldDone (Refused r) ≡ a
 told-refused e f = ap {B = Answer (Unit {0})} (λ (r : Refusal). refuses (r .number) (r .fault)) e ∙ f
 
 module _ (c n : ℕ) (b : Bool) (e : b ≡ validCapacity c) where
-  pub no-layout : (r : Refusal) → not b ≡ true → r ≡ refusal invalidLayout 0 → told (Refused r) ≡ onImage c n (gives tt)
+  pub no-layout : (r : Refusal) → not b ≡ true → r ≡ refusal invalidLayout 0 → toldDone (Refused r) ≡ onImage c n (gives tt)
   unfolding onImage
   no-layout r h w = told-refused w (rw (← e, not-true b h) refl)
 
-  pub other-length : (r : Refusal) → not b ≡ false → (n ≡ c → ⊥) → r ≡ refusal badLength 0 → told (Refused r) ≡ onImage c n (gives tt)
+  pub other-length : (r : Refusal) → not b ≡ false → (n ≡ c → ⊥) → r ≡ refusal badLength 0 → toldDone (Refused r) ≡ onImage c n (gives tt)
   unfolding onImage
   other-length r h l w = told-refused w (rw (← e, not-false b h, ne-eqb n c l) refl)
 
-  pub its-length : not b ≡ false → n ≡ c → told Done ≡ onImage c n (gives tt)
+  pub its-length : not b ≡ false → n ≡ c → toldDone Done ≡ onImage c n (gives tt)
   unfolding onImage
   its-length h l = rw (← e, not-false b h, eq-eqb n c l) refl
 
 -- ---- after checked_image: one more length
 
-module _ (c n : ℕ) (a : StoreAnswer) (e : told a ≡ onImage c n (gives tt)) where
+module _ (c n : ℕ) (a : DoneAnswer) (e : toldDone a ≡ onImage c n (gives tt)) where
   pub image-refused : {A : Type 0} (rest : Answer A) (x : Refusal) → a ≡ Refused x → refuses (x .number) (x .fault) ≡ onImage c n rest
-  image-refused rest x w = refused-image c n tt rest (x .number) (x .fault) (sym (ap told w) ∙ e)
+  image-refused rest x w = refused-image c n tt rest (x .number) (x .fault) (sym (ap toldDone w) ∙ e)
 
   pub image-held : a ≡ Done → (validCapacity c ≡ true) × (n ≡ c)
-  image-held w = let h = held-image c n (gives tt) tt (sym e ∙ ap told w) in (h .0, h .1)
+  image-held w = let h = held-image c n (gives tt) tt (sym e ∙ ap toldDone w) in (h .0, h .1)
 
-  pub no-image : (l w : ℕ) (x : Refusal) → a ≡ Refused x → told (Refused x) ≡ onLengths c n l w (gives tt)
+  pub no-image : (l w : ℕ) (x : Refusal) → a ≡ Refused x → toldDone (Refused x) ≡ onLengths c n l w (gives tt)
   unfolding onLengths
   no-image l w x h = image-refused _ x h
 
-  pub other-lengths : (l w : ℕ) (r : Refusal) → a ≡ Done → (l ≡ w → ⊥) → r ≡ refusal badLength 0 → told (Refused r) ≡ onLengths c n l w (gives tt)
+  pub other-lengths : (l w : ℕ) (r : Refusal) → a ≡ Done → (l ≡ w → ⊥) → r ≡ refusal badLength 0 → toldDone (Refused r) ≡ onLengths c n l w (gives tt)
   unfolding onLengths
   other-lengths l w r h d k =
       let i = image-held h in
       told-refused k (sym (on-image c n _ (i .0) (i .1) ∙ rw (ne-eqb l w d) refl))
 
-  pub its-lengths : (l w : ℕ) → a ≡ Done → l ≡ w → told Done ≡ onLengths c n l w (gives tt)
+  pub its-lengths : (l w : ℕ) → a ≡ Done → l ≡ w → toldDone Done ≡ onLengths c n l w (gives tt)
   its-lengths l w h d = let i = image-held h in sym (on-lengths c n l w (gives tt) (i .0) (i .1) d)
 
 -- ---- after checked_store and checked_mask
 
-module _ (c n l w : ℕ) (a : StoreAnswer) (e : told a ≡ onLengths c n l w (gives tt)) where
+module _ (c n l w : ℕ) (a : DoneAnswer) (e : toldDone a ≡ onLengths c n l w (gives tt)) where
   pub lengths-refused : {A : Type 0} (rest : Answer A) (x : Refusal) → a ≡ Refused x → refuses (x .number) (x .fault) ≡ onLengths c n l w rest
-  lengths-refused rest x h = refused-lengths c n l w tt rest (x .number) (x .fault) (sym (ap told h) ∙ e)
+  lengths-refused rest x h = refused-lengths c n l w tt rest (x .number) (x .fault) (sym (ap toldDone h) ∙ e)
 
   pub lengths-held : a ≡ Done → (validCapacity c ≡ true) × (n ≡ c) × (l ≡ w)
-  lengths-held h = let k = held-lengths c n l w (gives tt) tt (sym e ∙ ap told h) in (k .0, k .1, k .2)
+  lengths-held h = let k = held-lengths c n l w (gives tt) tt (sym e ∙ ap toldDone h) in (k .0, k .1, k .2)
 
   -- what comes after the tests is the answer
   pub lengths-passed : {A : Type 0} (rest : Answer A) → a ≡ Done → onLengths c n l w rest ≡ rest

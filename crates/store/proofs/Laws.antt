@@ -10,20 +10,17 @@ use lib.Dec.{eqb, leb, ltb}
 use lib.ListN.{length, getD, take, drop, length-replicate, length-drop}
 use lib.Seq.{length-take-le, getD-drop, getD-take, take-length}
 use Rattle.laws.specs.Refusals.{badLength}
-use Rattle.laws.specs.Answers.{Answer, gives, refuses, refusal}
+use Rattle.laws.specs.Answers.{Answer, gives, refuses}
 use Rattle.laws.specs.Bits.{bitClear}
 use Rattle.laws.proofs.Bits as Bits
 use Rattle.laws.proofs.Chain.{passed}
-use Rattle.laws.proofs.ReadBack.{read-back}
 use Rattle.layout.specs.Layout.{validCapacity}
 use Rattle.words.specs.Words.{placed}
 use Rattle.words.proofs.Numbers.{placed-fits}
-use Rattle.store.specs.Store.{told, leaves, part, inOnePage, programmedByte, programmedBytes, programmed, mask}
+use Rattle.store.specs.Store.{leaves, part, inOnePage, programmedByte, programmedBytes, programmed, mask}
 use Rattle.store.specs.Store.{programStores, afterProgram, isSector, blankSector, erased, eraseStores, afterErase}
 use Rattle.store.specs.Laws.{EachByte, OnlyAt, ProgramOnlyIts, ProgramItsPart, PageOnBlank, PageOnItself, PageAgain}
-use Rattle.store.specs.Laws.{ProgramAgain, CallAgain, NoBitRises, EraseOnlyIts, FailedErase, AnswersTell}
-use Rattle.store.specs.declared.StoreAnswer.{StoreAnswer}
-use Rattle.store.specs.declared.StoreAnswer.the-variants.{Done, Refused}
+use Rattle.store.specs.Laws.{ProgramAgain, CallAgain, NoBitRises, EraseOnlyIts, FailedErase}
 use Rattle.store.proofs.Bytes.{length-programmed-bytes, programmed-byte}
 use Rattle.store.proofs.Checks.{on-lengths, held-image, held-lengths, one-page}
 use Rattle.store.proofs.Replaced.{replaced, front-same, after-new, its-part, only-at, byte-new}
@@ -224,16 +221,3 @@ failed-erase c m a reply h = go (eraseStores c m a reply) refl
         kept : (q : Bool) → q ≡ false → (x : List ℕ) → _≡_ {A = Answer (List ℕ)} (gives (cond q (erased m a) m)) (gives x) → x ≡ m
         kept true w x y = absurd (let z : _≡_ {A = ℕ} 0 1 = cc in omega arith)
         kept false w x y = cc
-
--- ---- answers
-
-abbrev answer : Answer (Unit {0}) → StoreAnswer
-answer (gives a) = Done
-answer (refuses n x) = Refused (refusal n x)
-
-same-answer : (a : StoreAnswer) → answer (told a) ≡ a
-same-answer Done = refl
-same-answer (Refused r) = refl
-
-pub answers-tell : AnswersTell
-answers-tell = read-back told answer same-answer

@@ -8,10 +8,9 @@ use lib.ListN.{length, getD, replicate}
 use Rattle.laws.specs.Refusals.{device}
 use Rattle.laws.specs.Answers.{refuses}
 use Rattle.laws.specs.Bits.{bitClear}
-use Rattle.laws.specs.OneToOne.{OneToOne}
 use Rattle.layout.specs.Layout.{validCapacity, pagesIn, pageAt}
 use Rattle.words.specs.Words.{Bytes}
-use Rattle.store.specs.Store.{told, replied, readTold, afterRead, part, programmedByte, programmedBytes, programmed}
+use Rattle.store.specs.Store.{replied, readTold, afterRead, part, programmedByte, programmedBytes, programmed}
 use Rattle.store.specs.Store.{mask, programTold, afterProgram, blankSector, erased, eraseTold, afterErase}
 
 -- ---- a program
@@ -123,9 +122,3 @@ ProgramRefused = (capacity : ℕ) (image : List ℕ) (address : ℕ) (target kee
 abbrev pub EraseRefused : Type 0
 EraseRefused = (capacity : ℕ) (image : List ℕ) (address reply number fault : ℕ)
     → eraseTold capacity image address reply ≡ refuses number fault → afterErase capacity image address reply ≡ image
-
--- ---- answers
-
--- the answers are determined by what they tell
-abbrev pub AnswersTell : Type 0
-AnswersTell = OneToOne told

@@ -11,15 +11,6 @@ use Rattle.laws.specs.Refusals.{invalidLayout, device, badLength}
 use Rattle.laws.specs.Answers.{Answer, gives, refuses, must, then}
 use Rattle.layout.specs.Layout.{validCapacity}
 use Rattle.words.specs.Words.{placed}
-use Rattle.store.specs.declared.StoreAnswer.{StoreAnswer}
-use Rattle.store.specs.declared.StoreAnswer.the-variants.{Done, Refused}
-
--- ---- answers
-
--- what an answer without a value says: document 01's number of the refusal and its fault byte, or done
-abbrev pub told : StoreAnswer → Answer (Unit {0})
-told Done = gives tt
-told (Refused r) = refuses (r .number) (r .fault)
 
 -- "Order: 5, then 17": "image length not the capacity"
 unfoldable pub onImage : {A : Type 0} → ℕ → ℕ → Answer A → Answer A

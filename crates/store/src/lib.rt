@@ -1,63 +1,57 @@
 // A NOR store on a lent image, with one fault byte for each 256 bytes: reads, programs and sector erases.
 // A caller can rely on it that a refused call alters no lent byte, but for what a failing program itself stored, and
 // that programs and erases look at no fault byte.
-use laws::Refusal;
+use laws::DoneAnswer;
 ghost use mathlib.Core.Path.{_≡_};
 ghost use Prim.Native.Nat.{_+_, _≤_};
 ghost use lib.ListN.{length, getD};
-ghost use Rattle.laws.specs.Answers.{gives};
-ghost use Rattle.store.specs.Store.{told, onImage, onStore, onMask, faultAt, inOnePage, isSector, mask, programmed};
+ghost use Rattle.laws.specs.Answers.{gives, toldDone};
+ghost use Rattle.store.specs.Store.{onImage, onStore, onMask, faultAt, inOnePage, isSector, mask, programmed};
 ghost use Rattle.store.specs.Store.{readTold, afterRead, programTold, afterProgram, eraseTold, afterErase};
 
 pub const PAGE_LEN: usize = 256;
 
 pub const SECTOR_LEN: usize = 4096;
 
-// What a call answers that gives no value.
-pub enum StoreAnswer {
-    Done,
-    Refused(Refusal),
-}
-
 // Whether an image has the length of its capacity: refused 5, then 17.
-pub fn checked_image(capacity_bytes: u32, image_len: usize) -> StoreAnswer
-    ensures { λ r. ⌜ told r ≡ onImage «capacity_bytes» «image_len» (gives tt) ⌝ }
+pub fn checked_image(capacity_bytes: u32, image_len: usize) -> DoneAnswer
+    ensures { λ r. ⌜ toldDone r ≡ onImage «capacity_bytes» «image_len» (gives tt) ⌝ }
 {
     if !layout::valid_capacity(capacity_bytes) {
-        return StoreAnswer::Refused(laws::refused(laws::INVALID_LAYOUT));
+        return DoneAnswer::Refused(laws::refused(laws::INVALID_LAYOUT));
     }
     if image_len != capacity_bytes as usize {
-        return StoreAnswer::Refused(laws::refused(laws::BAD_LENGTH));
+        return DoneAnswer::Refused(laws::refused(laws::BAD_LENGTH));
     }
-    StoreAnswer::Done
+    DoneAnswer::Done
 }
 
 // The same with a fault byte for each 256 bytes.
-pub fn checked_store(capacity_bytes: u32, image_len: usize, faults_len: usize) -> StoreAnswer
-    ensures { λ r. ⌜ told r ≡ onStore «capacity_bytes» «image_len» «faults_len» (gives tt) ⌝ }
+pub fn checked_store(capacity_bytes: u32, image_len: usize, faults_len: usize) -> DoneAnswer
+    ensures { λ r. ⌜ toldDone r ≡ onStore «capacity_bytes» «image_len» «faults_len» (gives tt) ⌝ }
 {
     match checked_image(capacity_bytes, image_len) {
-        StoreAnswer::Refused(refusal) => StoreAnswer::Refused(refusal),
-        StoreAnswer::Done => {
+        DoneAnswer::Refused(refusal) => DoneAnswer::Refused(refusal),
+        DoneAnswer::Done => {
             if faults_len != (capacity_bytes as usize) / PAGE_LEN {
-                return StoreAnswer::Refused(laws::refused(laws::BAD_LENGTH));
+                return DoneAnswer::Refused(laws::refused(laws::BAD_LENGTH));
             }
-            StoreAnswer::Done
+            DoneAnswer::Done
         }
     }
 }
 
 // The same with a keep mask of 256 bytes.
-pub fn checked_mask(capacity_bytes: u32, image_len: usize, keep_len: usize) -> StoreAnswer
-    ensures { λ r. ⌜ told r ≡ onMask «capacity_bytes» «image_len» «keep_len» (gives tt) ⌝ }
+pub fn checked_mask(capacity_bytes: u32, image_len: usize, keep_len: usize) -> DoneAnswer
+    ensures { λ r. ⌜ toldDone r ≡ onMask «capacity_bytes» «image_len» «keep_len» (gives tt) ⌝ }
 {
     match checked_image(capacity_bytes, image_len) {
-        StoreAnswer::Refused(refusal) => StoreAnswer::Refused(refusal),
-        StoreAnswer::Done => {
+        DoneAnswer::Refused(refusal) => DoneAnswer::Refused(refusal),
+        DoneAnswer::Done => {
             if keep_len != PAGE_LEN {
-                return StoreAnswer::Refused(laws::refused(laws::BAD_LENGTH));
+                return DoneAnswer::Refused(laws::refused(laws::BAD_LENGTH));
             }
-            StoreAnswer::Done
+            DoneAnswer::Done
         }
     }
 }
@@ -101,24 +95,24 @@ pub fn read(
     faults: &[u8],
     address: u32,
     output: &mut [u8],
-) -> StoreAnswer
-    ensures { λ r. ⌜ told r ≡ readTold «capacity_bytes» (now (image .entry)) (now (faults .entry)) address (now (output .entry)) ⌝ }
+) -> DoneAnswer
+    ensures { λ r. ⌜ toldDone r ≡ readTold «capacity_bytes» (now (image .entry)) (now (faults .entry)) address (now (output .entry)) ⌝ }
     ensures { λ _. ⌜ now (output .exit) ≡ afterRead «capacity_bytes» (now (image .entry)) (now (faults .entry)) address (now (output .entry)) ⌝ }
 {
     match checked_store(capacity_bytes, image.len(), faults.len()) {
-        StoreAnswer::Refused(refusal) => StoreAnswer::Refused(refusal),
-        StoreAnswer::Done => {
+        DoneAnswer::Refused(refusal) => DoneAnswer::Refused(refusal),
+        DoneAnswer::Done => {
             if !in_one_page(capacity_bytes, address, output.len()) {
-                return StoreAnswer::Refused(laws::refused(laws::BAD_LENGTH));
+                return DoneAnswer::Refused(laws::refused(laws::BAD_LENGTH));
             }
             let fault = fault_at(faults, address);
             if fault != 0 {
-                return StoreAnswer::Refused(laws::device(fault));
+                return DoneAnswer::Refused(laws::device(fault));
             }
             let a = address as usize;
             let e = a + output.len();
             words::put_bytes(output, 0, &image[a..e]);
-            StoreAnswer::Done
+            DoneAnswer::Done
         }
     }
 }
@@ -156,47 +150,42 @@ pub fn page_program(
     target: &[u8],
     keep: &[u8],
     reply: u8,
-) -> StoreAnswer
-    ensures { λ r. ⌜ told r ≡ programTold «capacity_bytes» (now (image .entry)) address (now (target .entry)) (now (keep .entry)) reply ⌝ }
+) -> DoneAnswer
+    ensures { λ r. ⌜ toldDone r ≡ programTold «capacity_bytes» (now (image .entry)) address (now (target .entry)) (now (keep .entry)) reply ⌝ }
     ensures { λ _. ⌜ now (image .exit) ≡ afterProgram «capacity_bytes» (now (image .entry)) address (now (target .entry)) (now (keep .entry)) reply ⌝ }
 {
     match checked_mask(capacity_bytes, image.len(), keep.len()) {
-        StoreAnswer::Refused(refusal) => StoreAnswer::Refused(refusal),
-        StoreAnswer::Done => {
+        DoneAnswer::Refused(refusal) => DoneAnswer::Refused(refusal),
+        DoneAnswer::Done => {
             if !in_one_page(capacity_bytes, address, target.len()) {
-                return StoreAnswer::Refused(laws::refused(laws::BAD_LENGTH));
+                return DoneAnswer::Refused(laws::refused(laws::BAD_LENGTH));
             }
             program_bytes(image, address as usize, target, keep, reply == 0);
             if reply != 0 {
-                return StoreAnswer::Refused(laws::device(reply));
+                return DoneAnswer::Refused(laws::device(reply));
             }
-            StoreAnswer::Done
+            DoneAnswer::Done
         }
     }
 }
 
 // A sector erased to 0xff. `reply` is the device's: 0 succeeds; another is its fault, refused 6, and nothing is altered.
-pub fn erase_sector_4k(
-    capacity_bytes: u32,
-    image: &mut [u8],
-    address: u32,
-    reply: u8,
-) -> StoreAnswer
-    ensures { λ r. ⌜ told r ≡ eraseTold «capacity_bytes» (now (image .entry)) address reply ⌝ }
+pub fn erase_sector_4k(capacity_bytes: u32, image: &mut [u8], address: u32, reply: u8) -> DoneAnswer
+    ensures { λ r. ⌜ toldDone r ≡ eraseTold «capacity_bytes» (now (image .entry)) address reply ⌝ }
     ensures { λ _. ⌜ now (image .exit) ≡ afterErase «capacity_bytes» (now (image .entry)) address reply ⌝ }
 {
     match checked_image(capacity_bytes, image.len()) {
-        StoreAnswer::Refused(refusal) => StoreAnswer::Refused(refusal),
-        StoreAnswer::Done => {
+        DoneAnswer::Refused(refusal) => DoneAnswer::Refused(refusal),
+        DoneAnswer::Done => {
             if !is_sector(capacity_bytes, address) {
-                return StoreAnswer::Refused(laws::refused(laws::BAD_LENGTH));
+                return DoneAnswer::Refused(laws::refused(laws::BAD_LENGTH));
             }
             if reply != 0 {
-                return StoreAnswer::Refused(laws::device(reply));
+                return DoneAnswer::Refused(laws::device(reply));
             }
             let blank = [0xffu8; 4096];
             words::put_bytes(image, address as usize, &blank);
-            StoreAnswer::Done
+            DoneAnswer::Done
         }
     }
 }

@@ -11,8 +11,8 @@ recording-of-requires c κs = search needs
 all-synced-requires : tie.Need-all-synced-requires
 all-synced-requires c κs = search needs
 
-lay-test-requires : tie.Need-lay-test-requires
-lay-test-requires c κs = search needs
+lay-yes-no-requires : tie.Need-lay-yes-no-requires
+lay-yes-no-requires c κs = search needs
 
 same-length : tie.Need-same-length
 same-length c = search needs
@@ -23,4 +23,4 @@ returns c = ends (search (row-through, all-handed, needs))
 pub stipeflute-all-synced-spec : {M : Type 1} → statement M
 stipeflute-all-synced-spec =
     tie.close
-    (tie.spec recording-of-requires all-synced-requires lay-test-requires same-length returns)
+    (tie.spec recording-of-requires all-synced-requires lay-yes-no-requires same-length returns)

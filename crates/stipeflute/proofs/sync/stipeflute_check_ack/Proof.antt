@@ -10,12 +10,12 @@ recording-of-requires c κs = search needs
 check-ack-requires : tie.Need-check-ack-requires
 check-ack-requires c κs = search needs
 
-acknowledged-requires : tie.Need-acknowledged-requires
-acknowledged-requires c κs = search needs
+done-requires : tie.Need-done-requires
+done-requires c κs = search needs
 
 returns : tie.Need-returns
 returns c = search (ack-handed, needs)
 
 pub stipeflute-check-ack-spec : {M : Type 1} → statement M
 stipeflute-check-ack-spec =
-    tie.close (tie.spec recording-of-requires check-ack-requires acknowledged-requires returns)
+    tie.close (tie.spec recording-of-requires check-ack-requires done-requires returns)

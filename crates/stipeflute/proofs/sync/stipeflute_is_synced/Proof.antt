@@ -7,8 +7,8 @@ use Rattle.stipeflute.proofs.sync.stipeflute_is_synced.Tie as tie
 is-synced-requires : tie.Need-is-synced-requires
 is-synced-requires c κs = search needs
 
-lay-synced-requires : tie.Need-lay-synced-requires
-lay-synced-requires c κs = search needs
+lay-yes-no-requires : tie.Need-lay-yes-no-requires
+lay-yes-no-requires c κs = search needs
 
 same-length : tie.Need-same-length
 same-length c = search needs
@@ -18,4 +18,4 @@ returns c = ends (search (row-through, needs))
 
 pub stipeflute-is-synced-spec : {M : Type 1} → statement M
 stipeflute-is-synced-spec =
-    tie.close (tie.spec is-synced-requires lay-synced-requires same-length returns)
+    tie.close (tie.spec is-synced-requires lay-yes-no-requires same-length returns)
