@@ -4,28 +4,21 @@
 // Every sample has 20,480 bytes: all 0xff, but for the pages that its recipe names; a page of a flight has five records.
 
 // Page `index` as 256 bytes of one value.
-fn put_value(image: &mut [u8], index: usize, value: u8) {
-    if index < 16 {
-        let page = [value; 256];
-        words::put_bytes(image, 12288 + index * 256, &page);
-    }
+fn put_value(image: &mut [u8], index: u32, value: u8) {
+    let page = [value; 256];
+    words::put_bytes(image, layout::page_address(index), &page);
 }
 
 // Page `sequence` of a flight that begins at page `first`, with five all-zero records.
-fn put_page(image: &mut [u8], first: usize, flight: u32, sequence: u32) {
+fn put_page(image: &mut [u8], first: u32, flight: u32, sequence: u32) {
     let none = blackbox::no_record();
     let encoded = blackbox::encode_page(flight, sequence, [none, none, none, none, none], 5);
-    let page = encoded.page;
-    if first < 16 {
-        if sequence < 16 {
-            let at = 12288 + (first + sequence as usize) * 256;
-            words::put_bytes(image, at, &page);
-        }
-    }
+    let index = std::num::wrapping_add_u32(first, sequence);
+    words::put_bytes(image, layout::page_address(index), &encoded.page);
 }
 
 // `count` pages of a flight from `first` on.
-fn put_flight(image: &mut [u8], first: usize, count: u32, flight: u32) {
+fn put_flight(image: &mut [u8], first: u32, count: u32, flight: u32) {
     let mut sequence: u32 = 0;
     while sequence < count {
         put_page(image, first, flight, sequence);

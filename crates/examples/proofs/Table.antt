@@ -4,7 +4,7 @@ use Rattle.words.specs.Words.{leValue, leAt}
 use Rattle.crc32.specs.Crc.{remainder, crc32Of}
 use Rattle.layout.specs.Layout.{validCapacity, logPageCount, syncLedgerAddress, logPageAddress, logEraseSectorAddress}
 use Rattle.sync_ledger.specs.Ledger.{inRange, located, bitLocation}
-use Rattle.records.specs.Scan.{nextFlight}
+use Rattle.blackbox.specs.Flight.{nextFlight}
 use Rattle.records.specs.Scratch.{patternFrom, scratchPage}
 use Rattle.examples.specs.Table.{ProvedExamples}
 

@@ -12,7 +12,7 @@ use Rattle.words.specs.Words.{u16At, signed16}
 use Rattle.crc32.specs.Crc.{crc32Of}
 use Rattle.layout.specs.Layout.{logPageCount, syncLedgerAddress, logPageAddress, logEraseSectorAddress}
 use Rattle.sync_ledger.specs.Ledger.{location, bitLocation}
-use Rattle.records.specs.Scan.{nextFlight}
+use Rattle.blackbox.specs.Flight.{nextFlight}
 use Rattle.records.specs.Scratch.{scratchPage}
 
 -- `negsuc n` is -1 - n

@@ -14,7 +14,6 @@ use Rattle.layout.specs.Layout.{validCapacity, pagesIn}
 use Rattle.store.specs.Store.{onImage, onLengths}
 use Rattle.blackbox.specs.Record.{noRecord}
 use Rattle.blackbox.specs.declared.FlightRecord.{FlightRecord}
-use Rattle.records.specs.Scan.{nextFlight}
 use Rattle.assembler.specs.Assembler.{noPage, started, stopped, withoutReady, readyPage, taken}
 use Rattle.assembler.proofs.Laws.{never}
 use Rattle.queue.specs.Queue.{dequeue, oldest, withoutOldest, dequeued}

@@ -23,7 +23,7 @@ use Rattle.blackbox.proofs.Laws.{records-read-back, length-encoded, bytes-encod
 use Rattle.store.specs.Store.{programmedBytes}
 use Rattle.store.proofs.Laws.{page-on-blank, page-on-itself, page-again}
 use Rattle.assembler.specs.Assembler.{marked}
-use Rattle.records.specs.Scan.{nextFlight}
+use Rattle.blackbox.specs.Flight.{nextFlight}
 use Rattle.log_pages.specs.Store.{content, hasBootBit, real}
 
 -- the boot-session bit leaves every field fit

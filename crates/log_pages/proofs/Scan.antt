@@ -1,6 +1,6 @@
 -- Without faults the scan of an image is the theory's scan over the image's pages: the halving asks the same test, and each page says the
 -- same flight. Assumes nothing.
-use Prim.Native.Nat.{ℕ, zero, suc, _+_, _-_, _*_, _/_, _≤_, _<_}
+use Prim.Native.Nat.{ℕ, zero, suc, _+_, _-_, _/_, _≤_, _<_}
 use mathlib.Core.Path.{_≡_, refl, sym, ap, ap₂, _∙_}
 use mathlib.Core.Bool.{Bool, true, false, cond, false≢true}
 use mathlib.Core.List.{List, [], _∷_}
@@ -21,6 +21,7 @@ use Rattle.layout.specs.Layout.{validCapacity, pagesIn, pageAt}
 use Rattle.layout.proofs.Capacity.{valid}
 use Rattle.store.specs.Store.{readOf, faultAt}
 use Rattle.store.proofs.Checks.{on-lengths}
+use Rattle.blackbox.specs.Flight.{nextFlight}
 use Rattle.blackbox.specs.Page.{blankPage, decoded}
 use Rattle.blackbox.specs.declared.PageMetadata.{PageMetadata}
 use Rattle.records.specs.Pages.{pageIn, readPage, allBlank, blankAt, flightIn, ownAt, orElse, pageFlight}
@@ -148,9 +149,9 @@ module _ (image faults : List ℕ) (clear : NoFaults faults) where
       let z : suc i - 1 ≡ i = omega arith in
       rw (own-is (suc i), ne-eqb (suc i) 0 (λ e. omega arith), z, own-is i) (next-is (ownIn image (suc i)) (ownIn image i))
 
-  module _ (n : ℕ) (long : 12288 + n * 256 ≤ length image) where
+  module _ (n : ℕ) (long : pageAt n ≤ length image) where
     page-long : (i : ℕ) → i < n → length (pageIn image i) ≡ 256
-    page-long i h = length-take-le 256 (drop (12288 + i * 256) image) (omega (arith, length-drop (12288 + i * 256) image))
+    page-long i h = length-take-le 256 (drop (pageAt i) image) (omega (arith, length-drop (pageAt i) image))
 
     blank-is : (i : ℕ) → i < n → blankAt image faults i ≡ gives (isBlankPage (Theory.pageAt real (pagesOf n image) i))
     unfolding blankAt
@@ -167,7 +168,7 @@ module _ (image faults : List ℕ) (clear : NoFaults faults) where
     -- the verdict, from what the first and the last used page say
     appending-is : (used : ℕ) (o : Option PageFlight) → asScan (Theory-scan.appending real (pagesOf n image) used (asFlight o)) ≡ Scan.appending n used o
     appending-is used none = refl
-    appending-is used (some f) = ap (λ (k : ℕ). Scan.scan used (Scan.nextFlight (f .«flight_id»)) (ltb used k)) (length-pages image 0 n)
+    appending-is used (some f) = ap (λ (k : ℕ). Scan.scan used (nextFlight (f .«flight_id»)) (ltb used k)) (length-pages image 0 n)
 
     begun-is : (o : Option PageFlight) (s : Theory.ScanAnswer) → asScan (Theory-scan.ifBegun real (asFlight o) s) ≡ chosen o (asScan s)
     begun-is none s = refl

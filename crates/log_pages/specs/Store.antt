@@ -12,6 +12,7 @@ use Rattle.power.specs.Pages.{Decoded, PageStore}
 use Rattle.power.specs.Reading.{ScanAnswer, Span}
 use Rattle.words.specs.Words.{sameBytes}
 use Rattle.store.specs.Store.{programmedBytes}
+use Rattle.blackbox.specs.Flight.{nextFlight}
 use Rattle.blackbox.specs.Record.{Fit}
 use Rattle.blackbox.specs.Page.{blankPage, encodedPage, decoded, recordsIn}
 use Rattle.blackbox.specs.declared.FlightRecord.{FlightRecord}
@@ -52,7 +53,7 @@ real =
       programmed = programmedBytes;
       clean = [];
       limit = 2 ^ 32 - 1;
-      flightAfter = Scan.nextFlight;
+      flightAfter = nextFlight;
       sequenceAfter = λ s. (s + 1) % 2 ^ 32;
       armed = isArmed;
       marked = marked true;

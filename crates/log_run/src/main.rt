@@ -31,13 +31,13 @@ fn refused(number_: u8, fault: u8) {
 fn put_page(image: &mut [u8], index: u32, flight_id: u32) {
     let none = blackbox::no_record();
     let page = blackbox::encode_page(flight_id, 0, [none; 5], 5).page;
-    words::put_bytes(image, 12288 + (index as usize) * 256, &page);
+    words::put_bytes(image, layout::page_address(index), &page);
 }
 
 // A page that a power cut left: used, and it doesn't decode.
 fn tear_page(image: &mut [u8], index: u32) {
     let torn = [0u8; 256];
-    words::put_bytes(image, 12288 + (index as usize) * 256, &torn);
+    words::put_bytes(image, layout::page_address(index), &torn);
 }
 
 fn say_scan(name: &[u8], image: &[u8], faults: &[u8]) {

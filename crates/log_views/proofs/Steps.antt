@@ -13,7 +13,7 @@ use Rattle.power.specs.Pages.{full}
 use Rattle.power.specs.Writer as Model
 use Rattle.power.specs.Calls as Theory
 use Rattle.blackbox.specs.declared.FlightRecord.{FlightRecord}
-use Rattle.records.specs.Scan.{nextFlight}
+use Rattle.blackbox.specs.Flight.{nextFlight}
 use Rattle.assembler.specs.Assembler.{pageAssembler, started, answered, finished, marked, laid, pushed, unrecorded, stopped, withoutReady, taken}
 use Rattle.assembler.specs.Assembler as Assembler
 use Rattle.assembler.specs.Laws.{usedRows, pageOfRows}

@@ -10,7 +10,7 @@ use sync_ledger::StepAnswer;
 
 const CAPACITY: u32 = 20480;
 
-const LEDGER: usize = 16384;
+const LEDGER: usize = 20480 - store::SECTOR_LEN;
 
 const FLIGHT: u32 = 9;
 

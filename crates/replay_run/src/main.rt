@@ -125,7 +125,7 @@ fn put_page(image: &mut [u8], page: u32, flight: u32, sequence: u32, count: u32)
         record_number(first + 4),
     ];
     let encoded = blackbox::encode_page(flight, sequence, rows, count as usize).page;
-    words::put_bytes(image, 12288 + (page as usize) * 256, &encoded);
+    words::put_bytes(image, layout::page_address(page), &encoded);
 }
 
 fn put_pages(image: &mut [u8], first: u32, count: u32, flight: u32, records: u32) {

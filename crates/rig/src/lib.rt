@@ -176,7 +176,7 @@ fn scan(capacity_bytes: u32, image: &[u8]) -> ScanAnswer
     match store::checked_image(capacity_bytes, image.len()) {
         DoneAnswer::Refused(refusal) => ScanAnswer::Refused(refusal),
         DoneAnswer::Done => records::scan_pages(
-            records::page_count(capacity_bytes),
+            layout::page_count(capacity_bytes),
             image,
             &image[0..0],
         ),
