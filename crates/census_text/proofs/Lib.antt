@@ -4,5 +4,6 @@ pub mod Lines
 pub mod Bounds
 pub mod Whole
 pub mod Flights
+pub mod Passes
 pub mod Laws
 pub mod Refusals

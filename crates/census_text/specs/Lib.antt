@@ -1,3 +1,4 @@
 pub mod Text
 pub mod Census
 pub mod Laws
+pub mod Tables
