@@ -2,7 +2,7 @@
 // changing the field, what a byte of a page is for by changing the byte. .ci/names holds the document to the file stdout.
 use blackbox::FlightRecord;
 use blackbox::PageAnswer;
-use layout::NumberAnswer;
+use laws::NumberAnswer;
 use layout::StorageLayout;
 use log_search::FindAnswer;
 use records::FlightAnswer;
