@@ -489,9 +489,10 @@ fn say_bit(flight: u32) {
 
 fn say_ledger_of(image: &mut [u8]) {
     say_header(b"ff ff ff ff ff ff ff ff  ", image);
-    words::put_bytes(image, 16384, b"FWSYNC01");
+    let ledger = layout::page_address(layout::page_count(20480));
+    words::put_bytes(image, ledger, b"FWSYNC01");
     say_header(b"FWSYNC01                 ", image);
-    words::put_bytes(image, 16384, b"FWSYNC02");
+    words::put_bytes(image, ledger, b"FWSYNC02");
     say_header(b"FWSYNC02                 ", image);
     heading(b"bits");
     text(b" flight  address  mask\n");
@@ -508,13 +509,13 @@ fn say_ledger_of(image: &mut [u8]) {
 
 fn put_page(image: &mut [u8], index: u32, flight: u32, sequence: u32, count: usize) {
     let page = page_of(flight, sequence, count);
-    words::put_bytes(image, 12288 + (index as usize) * 256, &page);
+    words::put_bytes(image, layout::page_address(index), &page);
 }
 
 // A page whose program was cut: the first half of its bytes only.
 fn put_torn(image: &mut [u8], index: u32, flight: u32, sequence: u32) {
     let page = page_of(flight, sequence, 5);
-    words::put_bytes(image, 12288 + (index as usize) * 256, &page[0..128]);
+    words::put_bytes(image, layout::page_address(index), &page[0..128]);
 }
 
 fn put_log(image: &mut [u8]) {
@@ -544,7 +545,7 @@ fn say_flight(image: &[u8], index: u32) {
 fn say_log_page(image: &[u8], index: u32) {
     let page = records::page_part(image, index);
     right(index as u64, 4);
-    right(12288 + 256 * (index as u64), 7);
+    right(layout::page_address(index) as u64, 7);
     if records::is_blank(page) {
         text(b"  blank\n");
         return;
@@ -689,7 +690,7 @@ fn main() {
     text(b"flash\n\n");
     say_flash(20480);
     heading(b"capacities");
-    say_capacity(16384);
+    say_capacity(layout::LOG_START_ADDRESS + layout::CONFIG_SECTOR_SIZE);
     say_capacity(20480);
     say_capacity(20736);
     say_capacity(16777216);
