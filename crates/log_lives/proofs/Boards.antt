@@ -6,7 +6,6 @@ use mathlib.Core.Option.{none, Option, some}
 use mathlib.Core.Logic.{_↔_, inl, _⊎_, inr}
 use mathlib.Core.List.{List, [], _∷_, _++_, append-nil}
 use native.Mathlib.Omega.{arith}
-use lib.Dec.{ltb}
 use lib.ListN.{length}
 use Rattle.power.specs.Reading.{Torn, pageAt}
 use Rattle.power.specs.Writer as Model
@@ -38,10 +37,10 @@ use Rattle.log_pages.proofs.Real.{real-lawful}
 use Rattle.script.specs.Script.{Operation, offers, drains, writes, powers, recovers, resets, flushes, operations}
 use Rattle.script.specs.Laws.{EachWrites}
 use Rattle.script.proofs.Laws.{rows-fit}
-use Rattle.log_views.specs.Views.{ifThere, asNext}
+use Rattle.log_views.specs.Views.{ifThere}
 use Rattle.rig.specs.Rig.{unpowered, played, imageAfter, playsImage, afterPlay}
 use Rattle.rig.specs.declared.Bench.{Bench}
-use Rattle.log_lives.specs.Lives.{EachOfLife, callsOf, lifeFrom, lifeOf, lifeAfter, deviceBefore, deviceAfter}
+use Rattle.log_lives.specs.Lives.{EachOfLife, takes, drainOf, writeOf, callsOf, lifeFrom, lifeOf, lifeAfter, deviceBefore, deviceAfter}
 use Rattle.log_lives.specs.Theorem.{Plays, logOf, loggedIn, benchAfter}
 use Rattle.log_lives.specs.Boards.{Board, onFlash, SegmentsOfImage, NoPowerOn, OneTornPage, NoneTornIfFinished, TornEndsPowerOn, SameLoggedNear, TornIsLeft}
 use Rattle.log_lives.specs.Boards.{ImagesExplained, ImagesPaired, acceptedIn, Heeds, OffersHeeded, LoggedBut31, StreamsOfImages}
@@ -61,7 +60,7 @@ module _ (c : ℕ) where
   within [] b image past now f l w h = held b image f
   within (o ∷ os) b image past now f l w h =
       let g = goes c b image f past now o (l .0) (w .0) in
-      step o (ltb (b .queue .held) 31) refl
+      step o (takes b) refl
       (λ k. subst (Within real 31 rest) (sym (g .same))
       (within os (played c o b image .bench) (imageAfter c o b image) (g .past) (g .now) (fine-after c o b image f) (l .1) (w .1) (subst (Heeds rest) (g .same) k)))
       h
@@ -81,12 +80,12 @@ module _ (c : ℕ) where
       offered r true k m = one (Life.offers r) k m
       offered r false k m = k m
 
-      step : (x : Operation) (z : Bool) → ltb (b .queue .held) 31 ≡ z
+      step : (x : Operation) (z : Bool) → takes b ≡ z
           → (Heeds rest (Life.lives real (callsOf x b) d) → Within real 31 rest (Life.lives real (callsOf x b) d))
           → Heeds (callsOf x b ++ rest) d → Within real 31 (callsOf x b ++ rest) d
-      step (offers r) z e k m = offered r (ltb (b .queue .held) 31) k m
-      step (drains limit whileDisarmed armed succeed next keep) z e k m = one (Life.drains limit whileDisarmed armed succeed (asNext next keep)) k m
-      step (writes succeed next keep) z e k m = one (Life.writes succeed (asNext next keep)) k m
+      step (offers r) z e k m = offered r (takes b) k m
+      step (drains limit whileDisarmed armed succeed next keep) z e k m = one (drainOf limit whileDisarmed armed succeed next keep) k m
+      step (writes succeed next keep) z e k m = one (writeOf succeed next keep) k m
       step powers z e k m = one Life.powers k m
       step (recovers page flight writable) z e k m = k m
       step resets z e k m = k m
@@ -149,7 +148,7 @@ streams-of-images n whileDisarmed shutLeft shutRight c image script output c′ 
 
 no-power : (os : List Operation) (b : Bench) → (c : ℕ) (image : List ℕ) → NoPowerOn os → Theory.NoPowerOn real (lifeFrom c os b image)
 no-power [] b c image h = tt
-no-power (offers r ∷ os) b c image h = go (ltb (b .queue .held) 31) (no-power os (played c (offers r) b image .bench) c (imageAfter c (offers r) b image) h)
+no-power (offers r ∷ os) b c image h = go (takes b) (no-power os (played c (offers r) b image .bench) c (imageAfter c (offers r) b image) h)
   where
     go : (z : Bool) → Theory.NoPowerOn real (lifeFrom c os (played c (offers r) b image .bench) (imageAfter c (offers r) b image))
         → Theory.NoPowerOn real (cond z (Life.offers r ∷ []) [] ++ lifeFrom c os (played c (offers r) b image .bench) (imageAfter c (offers r) b image))
@@ -247,7 +246,7 @@ module _ (c : ℕ) (image script output longer output′ : List ℕ) (p : Plays 
 pub torn-is-left : TornIsLeft
 torn-is-left c image script output longer output′ (offers r) p b e i t =
     inl (left-as c image script output longer output′ p b (lifeAfter c image script (offers r ∷ [])) (longer-life c image script longer (offers r ∷ []) e)
-    (go (ltb (benchAfter c image script .queue .held) 31)) i t)
+    (go (takes (benchAfter c image script))) i t)
   where
     go : (z : Bool)
         → Life.lives real (cond z (Life.offers r ∷ []) [] ++ []) (Life.lives real (lifeOf c image script) (Life.unpowered real (erased real (pagesIn c)))) .log
@@ -257,10 +256,10 @@ torn-is-left c image script output longer output′ (offers r) p b e i t =
 torn-is-left c image script output longer output′ (drains limit whileDisarmed armed succeed next keep) p b e i t =
     left-by c image script output longer output′ p b (lifeAfter c image script (drains limit whileDisarmed armed succeed next keep ∷ []))
     (longer-life c image script longer (drains limit whileDisarmed armed succeed next keep ∷ []) e)
-    (Life.drains limit whileDisarmed armed succeed (asNext next keep)) refl i t
+    (drainOf limit whileDisarmed armed succeed next keep) refl i t
 torn-is-left c image script output longer output′ (writes succeed next keep) p b e i t =
     left-by c image script output longer output′ p b (lifeAfter c image script (writes succeed next keep ∷ []))
-    (longer-life c image script longer (writes succeed next keep ∷ []) e) (Life.writes succeed (asNext next keep)) refl i t
+    (longer-life c image script longer (writes succeed next keep ∷ []) e) (writeOf succeed next keep) refl i t
 torn-is-left c image script output longer output′ powers p b e i t =
     inl (left-as c image script output longer output′ p b (lifeAfter c image script (powers ∷ [])) (longer-life c image script longer (powers ∷ []) e) refl i t)
 torn-is-left c image script output longer output′ (recovers page flight writable) p b e i t =

@@ -2,7 +2,7 @@
 -- each plays its call. Assumes nothing.
 use Prim.Native.Nat.{ℕ, _^_, _*_, _-_}
 use mathlib.Core.Path.{_≡_, refl, sym, ap, ap₂, _∙_, subst}
-use mathlib.Core.Bool.{Bool, cond}
+use mathlib.Core.Bool.{Bool, true, cond}
 use mathlib.Core.Logic.{_⊎_, inl, inr}
 use mathlib.Core.List.{List, [], _∷_, _++_}
 use native.Mathlib.Omega.{arith}
@@ -28,10 +28,10 @@ use Rattle.script.proofs.Laws.{has-script}
 use Rattle.rig.specs.Rig.{unpowered, played, imageAfter}
 use Rattle.rig.specs.declared.Bench.{Bench}
 use Rattle.rig.proofs.Laws.{unpowered-sound}
-use Rattle.log_lives.specs.Lives.{OfLife, EachOfLife, callsOf, lifeFrom, deviceBefore, NoneDecodes, nextOf, keepOf, operationOf, operationsOf}
+use Rattle.log_lives.specs.Lives.{OfLife, EachOfLife, takes, callsOf, lifeFrom, deviceBefore, NoneDecodes, nextOf, keepOf, operationOf, operationsOf}
 use Rattle.log_lives.specs.Theorem.{Plays}
 use Rattle.log_lives.specs.Scripts.{IsMask, MaskFits, Fits, AllFit, ScriptOf, EveryLifeHasScript, EndsSafe, EveryLifeSafe, EveryMomentSafe}
-use Rattle.log_lives.proofs.Lives.{deviceOf, Fine, goes, fine-after}
+use Rattle.log_lives.proofs.Lives.{deviceOf, Fine, drain-called, goes, fine-after}
 use Rattle.log_lives.proofs.Scripts.{BytesOf, EachBytesOf, script-bytes}
 use Rattle.log_lives.proofs.Theorem.{begun-is, log-is, demand-3, none-decodes}
 
@@ -42,8 +42,8 @@ next-back (Next.cut keep) = refl
 
 mask-long : (next : Next (List ℕ)) → MaskFits next → length (keepOf next) ≡ 256
 mask-long Next.busy h = length-replicate {A = ℕ} 256 0
-mask-long (Next.fault keep) h = h .0
-mask-long (Next.cut keep) h = h .0
+mask-long (Next.fault keep) h = omega (arith, h .0)
+mask-long (Next.cut keep) h = omega (arith, h .0)
 
 each-of-life : (life : List (Call real)) → EachOfLife (operationsOf life)
 each-of-life [] = tt
@@ -72,10 +72,11 @@ of-life Life.powers = tt
 call-back : (c : ℕ) (b : Bench) (image : List ℕ) (past : List (List (ℕ × FlightRecord))) (now : List (ℕ × FlightRecord)) (x : Call real)
     → Fine c b image → Fits x (deviceOf (pagesIn c) b image past now) → callsOf (operationOf x) b ≡ x ∷ []
 call-back c b image past now (Life.offers r) f h =
-    ap (λ (z : Bool). cond z (Life.offers r ∷ []) [])
-    (lt-ltb (b .queue .held) 31 (omega (arith, h .1, holds-at-most-31 (b .queue) (f .sound .queue) .0)))
+    ap (λ (z : Bool). cond z (Life.offers r ∷ []) []) {x = takes b} {y = true}
+    (omega (arith, h .1, holds-at-most-31 (b .queue) (f .sound .queue) .0, lt-ltb))
 call-back c b image past now (Life.drains limit whileDisarmed armed succeed next) f h =
-    ap (λ (n : Next (List ℕ)). Life.drains limit whileDisarmed armed succeed n ∷ []) (next-back next)
+    ap (λ (y : Call real). y ∷ []) (drain-called limit whileDisarmed armed succeed (nextOf next) (keepOf next))
+    ∙ ap (λ (n : Next (List ℕ)). Life.drains limit whileDisarmed armed succeed n ∷ []) (next-back next)
 call-back c b image past now (Life.writes succeed next) f h = ap (λ (n : Next (List ℕ)). Life.writes succeed n ∷ []) (next-back next)
 call-back c b image past now Life.powers f h = refl
 
@@ -95,8 +96,8 @@ life-back c (x ∷ life) b image past now f h =
 -- the masks of a life are bytes
 mask-bytes : (next : Next (List ℕ)) → MaskFits next → Bytes (keepOf next)
 mask-bytes Next.busy h = bytes-replicate 256 0 (omega arith)
-mask-bytes (Next.fault keep) h = h .1
-mask-bytes (Next.cut keep) h = h .1
+mask-bytes (Next.fault keep) h = λ i. omega (arith, h .1 i)
+mask-bytes (Next.cut keep) h = λ i. omega (arith, h .1 i)
 
 bytes-of : (x : Call real) (d : Device real) → Fits x d → BytesOf (operationOf x)
 bytes-of (Life.offers r) d h = tt

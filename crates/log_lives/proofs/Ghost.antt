@@ -1,17 +1,16 @@
 -- "Logged" is what the code did: the theory's device is the view of the bench and the image, and each operation adds to what was logged what it should.
 -- Assumes nothing.
 use Prim.Native.Nat.{ℕ}
-use mathlib.Core.Path.{_≡_, refl, sym, ap, _∙_}
+use mathlib.Core.Path.{_≡_, refl, sym, ap, ap₂, _∙_}
 use mathlib.Core.Bool.{Bool, true, false, cond}
 use mathlib.Core.Logic.{_⊎_, inl, inr}
 use mathlib.Core.List.{List, [], _∷_, _++_, append-nil}
-use lib.Dec.{ltb}
 use Rattle.power.specs.Pages.{Each}
 use Rattle.power.specs.Writer.{Writer}
 use Rattle.power.specs.Calls.{Next, Pass, drain}
 use Rattle.power.specs.Life.{Call, Device}
 use Rattle.power.specs.Life as Life
-use Rattle.power.specs.Reports.{recordedAs, loggedOnes, markFirst, LoggedExactly}
+use Rattle.power.specs.Reports.{markFirst, LoggedExactly}
 use Rattle.power.proofs.Counted.{unwritable-logs-nothing, write-logs-nothing}
 use Rattle.power.proofs.Logged.{drain-logs, marks-in-lives}
 use Rattle.power.proofs.Moments.{lives-append}
@@ -24,8 +23,9 @@ use Rattle.log_views.specs.Views.{asNext}
 use Rattle.script.specs.Script.{Operation, offers, drains, writes, powers, recovers, resets, flushes, operations}
 use Rattle.rig.specs.Rig.{unpowered}
 use Rattle.rig.specs.declared.Bench.{Bench}
-use Rattle.log_lives.specs.Lives.{callsOf, lifeFrom, lifeOf, deviceBefore, deviceAfter}
+use Rattle.log_lives.specs.Lives.{takes, drainOf, callsOf, lifeFrom, lifeOf, deviceBefore, deviceAfter}
 use Rattle.log_lives.specs.Theorem.{Plays, logOf, loggedIn, benchAfter, SameDevice, DevicesAgree, DrainLogged, LoggedBy, LoggedStepByStep, NothingLoggedFirst}
+use Rattle.log_lives.proofs.Lives.{drain-called}
 use Rattle.log_lives.proofs.Theorem.{reached, log-is, longer-life}
 
 pub devices-agree : DevicesAgree
@@ -41,6 +41,11 @@ devices-agree c image script output p =
 one-edition : (records : List FlightRecord) → Each (λ r. _≡_ {A = Unit {0}} tt tt) records
 one-edition [] = tt
 one-edition (r ∷ records) = (refl, one-edition records)
+
+-- the mark by the same flag, on the same records
+marked-as : {logged ones ones′ : List FlightRecord} {due due′ : Bool} → logged ≡ markFirst real due ones → due ≡ due′ → ones ≡ ones′
+    → logged ≡ markFirst real due′ ones′
+marked-as l q r = l ∙ ap₂ (markFirst real) q r
 
 module _ (c : ℕ) (image script output longer output′ : List ℕ) (p : Plays c image script output) (p′ : Plays c image longer output′) where
   abbrev d : Device real
@@ -81,12 +86,10 @@ module _ (c : ℕ) (image script output longer output′ : List ℕ) (p : Plays 
           is-logged = ap (Life.history real) there;
           left = h .left;
           rest = h .rest;
-          leaving = sym (same .queue) ∙ h .queue;
+          leaving = search (sym (same .queue) ∙ h .queue);
           waiting = by (pass .powerGone) refl;
           exactly =
-              h .logged
-              ∙ ap (λ (due : Bool). markFirst real due (loggedOnes real whileDisarmed (recordedAs real (d .writer)) (h .left))) (ap (λ (w : Writer real). w .markDue) (same .writer))
-              ∙ ap (markFirst real (b .writer .«boot_session_start»))
+              marked-as (h .logged) (search (ap (λ (w : Writer real). w .markDue) (same .writer)))
               (ones-loggable real real-lawful tt whileDisarmed (d .writer .assembler .recording) (d .writer .assembler .edition) (λ z. refl) (h .left) (one-edition (h .left)));
         }
       where
@@ -103,7 +106,7 @@ module _ (c : ℕ) (image script output longer output′ : List ℕ) (p : Plays 
 
   logged-by : (o : Operation) → operations longer ≡ operations script ++ o ∷ []
       → LoggedBy o b (benchAfter c image longer) (loggedIn c image script) (loggedIn c image longer)
-  logged-by (offers r) e = logs-none (offers r) e (go (ltb (b .queue .held) 31))
+  logged-by (offers r) e = logs-none (offers r) e (go (takes b))
     where
       go : (z : Bool) → Life.history real (Life.lives real (cond z (Life.offers r ∷ []) []) d) ≡ Life.history real d
       go true = refl
@@ -111,12 +114,14 @@ module _ (c : ℕ) (image script output longer output′ : List ℕ) (p : Plays 
   logged-by (drains limit whileDisarmed armed succeed next keep) e = (
     λ on.
         drained limit whileDisarmed armed succeed (drains limit whileDisarmed armed succeed next keep) e
-        (Life.drains limit whileDisarmed armed succeed (asNext next keep)) (asNext next keep) (drain real limit whileDisarmed armed (Life.begin real d succeed (asNext next keep))) refl refl
+        (drainOf limit whileDisarmed armed succeed next keep) (asNext next keep) (drain real limit whileDisarmed armed (Life.begin real d succeed (asNext next keep))) refl
+        (ap (λ (x : Call real). Life.call real x d) (drain-called limit whileDisarmed armed succeed next keep))
         (drain-logs real real-lawful d limit whileDisarmed armed succeed (asNext next keep) (ap (λ (w : Writer real). w .writable) (devices-agree c image script output p .writer) ∙ on)
         (marks-in-lives real real-lawful (logOf c image) (lifeOf c image script))),
     λ off.
         logs-none (drains limit whileDisarmed armed succeed next keep) e
-        (ap (λ (l : List (ℕ × FlightRecord)). d .past ++ l ∷ [])
+        (ap (λ (x : Call real). Life.history real (Life.call real x d)) (drain-called limit whileDisarmed armed succeed next keep)
+        ∙ ap (λ (l : List (ℕ × FlightRecord)). d .past ++ l ∷ [])
         (ap (λ (l : List (ℕ × FlightRecord)). d .now ++ l)
         (unwritable-logs-nothing real d limit whileDisarmed armed succeed (asNext next keep) (ap (λ (w : Writer real). w .writable) (devices-agree c image script output p .writer) ∙ off))
         ∙ append-nil (d .now))),

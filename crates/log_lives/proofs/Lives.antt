@@ -7,13 +7,12 @@ use mathlib.Core.List.{List, [], _∷_, _++_}
 use mathlib.Core.Option.{none}
 use native.Mathlib.Omega.{arith}
 use borrow.Author.Tests.{ltb-true, ltb-false}
-use lib.Dec.{ltb}
 use lib.ListN.{length, getD, replicate, length-replicate}
 use Rattle.laws.specs.Answers.{Answer, gives}
 use Rattle.power.specs.Writer as Model
 use Rattle.power.specs.Calls as Theory
 use Rattle.power.specs.Scan as Theory-scan
-use Rattle.power.specs.Life.{Device}
+use Rattle.power.specs.Life.{Call, Device}
 use Rattle.power.specs.Life as Life
 use Rattle.layout.specs.Layout.{logStart, validCapacity, pagesIn}
 use Rattle.store.specs.Store.{leaves}
@@ -38,7 +37,7 @@ use Rattle.log_laws.proofs.OnlyLog.{only-same, only-then, has-room, drain-only-
 use Rattle.log_pages.specs.Store.{real, pagesOf}
 use Rattle.log_pages.proofs.Real.{real-lawful}
 use Rattle.log_pages.proofs.Scan.{NoFaults, scan-is-theory}
-use Rattle.log_views.specs.Views.{asWriter, asPass}
+use Rattle.log_views.specs.Views.{asWriter, asNext, asPass}
 use Rattle.log_views.proofs.Drain.{drain-is}
 use Rattle.log_views.proofs.Write.{write-is}
 use Rattle.script.specs.Script.{Operation, offers, drains, writes, powers, recovers, resets, flushes}
@@ -47,7 +46,7 @@ use Rattle.rig.specs.Rig.{bench, draining, writing, powering, noFaults, played,
 use Rattle.rig.specs.Laws.{SoundBench}
 use Rattle.rig.specs.declared.Bench.{Bench}
 use Rattle.rig.proofs.Laws.{operation-keeps}
-use Rattle.log_lives.specs.Lives.{OfLife, EachOfLife, callsOf, lifeFrom}
+use Rattle.log_lives.specs.Lives.{OfLife, EachOfLife, takes, drainOf, callsOf, lifeFrom}
 
 -- the device that a bench and an image are to the theory, with a history
 abbrev pub deviceOf : ℕ → Bench → List ℕ → List (List (ℕ × FlightRecord)) → List (ℕ × FlightRecord) → Device real
@@ -80,6 +79,12 @@ one-a-page capacity = length-replicate {A = ℕ} (capacity / 256) 0
 
 -- ---- one operation
 
+-- a drain is called with the script's numbers
+pub drain-called : (limit : ℕ) (whileDisarmed armed : Bool) (succeed : ℕ) (next : NextProgram) (keep : List ℕ)
+    → drainOf limit whileDisarmed armed succeed next keep ≡ Life.drains limit whileDisarmed armed succeed (asNext next keep)
+drain-called limit whileDisarmed armed succeed next keep =
+    ap₂ (λ (l s : ℕ). Life.drains l whileDisarmed armed s (asNext next keep)) (omega arith) (omega arith)
+
 module _ (capacity : ℕ) (b : Bench) (image : List ℕ) (f : Fine capacity b image) (past : List (List (ℕ × FlightRecord))) (now : List (ℕ × FlightRecord)) where
   abbrev pages : ℕ
   pages = pagesIn capacity
@@ -95,16 +100,15 @@ module _ (capacity : ℕ) (b : Bench) (image : List ℕ) (f : Fine capacity b im
 
   offer-goes : (r : FlightRecord) → Goes (offers r)
   unfolding played imageAfter
-  offer-goes r = go (ltb (b .queue .held) 31) refl
+  offer-goes r = go (takes b) refl
     where
       held : length (recordsHeld (b .queue)) ≡ b .queue .held
       held = holds-at-most-31 (b .queue) (f .sound .queue) .0
 
-      go : (z : Bool) → ltb (b .queue .held) 31 ≡ z
+      go : (z : Bool) → takes b ≡ z
           → Reaches pages (Life.lives real (cond z (Life.offers r ∷ []) []) before) (bench (b .writer) (offered (b .queue) r .queue)) image
       go true e =
-          let l = ltb-true (b .queue .held) 31 e in
-          let h = offer-appends (b .queue) r (f .sound .queue) .room (omega (arith, held)) in
+          let h = offer-appends (b .queue) r (f .sound .queue) .room (omega (arith, held, ltb-true)) in
           record {
             past = past;
             now = now;
@@ -113,8 +117,7 @@ module _ (capacity : ℕ) (b : Bench) (image : List ℕ) (f : Fine capacity b im
                 (sym (h .1));
           }
       go false e =
-          let l = ltb-false (b .queue .held) 31 e in
-          let h = offer-appends (b .queue) r (f .sound .queue) .full (omega (arith, held)) in
+          let h = offer-appends (b .queue) r (f .sound .queue) .full (omega (arith, held, ltb-false)) in
           record { past = past; now = now; same = ap (λ (q : RecordQueue). deviceOf pages (bench (b .writer) q) image past now) (sym (h .1)) }
 
   drain-goes : (limit : ℕ) (whileDisarmed armed : Bool) (succeed : ℕ) (next : NextProgram) (keep : List ℕ) → length keep ≡ 256
@@ -128,7 +131,8 @@ module _ (capacity : ℕ) (b : Bench) (image : List ℕ) (f : Fine capacity b im
         past = past;
         now = now ++ h .logged;
         same =
-            ap (Life.afterPass real before) (h .same)
+            ap (λ (x : Call real). Life.call real x before) (drain-called limit whileDisarmed armed succeed next keep)
+            ∙ ap (Life.afterPass real before) (h .same)
             ∙ ap₂ (λ (x : Answer Pass) (m : Answer (List ℕ)). deviceOf pages (draining (drainTold (b .writer) (b .queue) x) .bench) (leaves image m) past (now ++ h .logged))
             (sym (passed-log capacity (length image) (length keep) (gives _) on)) (sym (passed-log capacity (length image) (length keep) (gives _) on));
       }

@@ -3,7 +3,6 @@ use Prim.Native.Nat.{ℕ}
 use mathlib.Core.Path.{refl, sym, subst}
 use mathlib.Core.Bool.{Bool, true, false, cond}
 use mathlib.Core.List.{List, [], _∷_, _++_}
-use lib.Dec.{ltb}
 use Rattle.laws.specs.Bits.{bit}
 use Rattle.power.specs.Pages.{Each}
 use Rattle.power.specs.Life as Life
@@ -22,7 +21,7 @@ use Rattle.script.specs.Laws.{EachWrites}
 use Rattle.script.proofs.Laws.{rows-fit}
 use Rattle.rig.specs.Rig.{unpowered, played, imageAfter}
 use Rattle.rig.specs.declared.Bench.{Bench}
-use Rattle.log_lives.specs.Lives.{lifeFrom, lifeOf}
+use Rattle.log_lives.specs.Lives.{takes, lifeFrom, lifeOf}
 use Rattle.log_lives.specs.Spared.{MaskSpares, Spares, SparedScripts, benchDay, BenchDaySafe}
 use Rattle.log_lives.proofs.Theorem.{demand-3, none-decodes, some-pages, few-pages}
 
@@ -36,7 +35,7 @@ module _ (b : MagicBit) where
       → Each (CallSpares real (Unprogrammed b)) (lifeFrom c os x image)
   life-spares c [] x image w h = tt
   life-spares c (offers r ∷ os) x image w h =
-      go (ltb (x .queue .held) 31) (life-spares c os (played c (offers r) x image .bench) (imageAfter c (offers r) x image) (w .1) (h .1))
+      go (takes x) (life-spares c os (played c (offers r) x image .bench) (imageAfter c (offers r) x image) (w .1) (h .1))
     where
       go : (z : Bool) → Each (CallSpares real (Unprogrammed b)) (lifeFrom c os (played c (offers r) x image .bench) (imageAfter c (offers r) x image))
           → Each (CallSpares real (Unprogrammed b))

@@ -5,7 +5,7 @@ use mathlib.Core.Bool.{Bool, true, false, cond}
 use mathlib.Core.List.{List, [], _∷_, _++_, append-assoc}
 use native.Mathlib.Omega.{arith}
 use borrow.Author.Tests.{eq-eqb}
-use lib.Dec.{eqb, ltb}
+use lib.Dec.{eqb}
 use lib.ListN.{length}
 use Rattle.laws.specs.Refusals.{badLength}
 use Rattle.laws.specs.Answers.{Answer, gives, refuses, must}
@@ -34,14 +34,13 @@ use Rattle.log_pages.specs.Store.{real}
 use Rattle.log_pages.proofs.Real.{real-lawful}
 use Rattle.log_pages.proofs.Scan.{length-pages, scan-is-theory}
 use Rattle.log_pages.proofs.Search.{find-is-theory}
-use Rattle.log_views.specs.Views.{asNext}
 use Rattle.script.specs.Script.{Operation, offers, drains, writes, powers, recovers, resets, flushes, rowsIn, operations}
 use Rattle.script.specs.Laws.{EachWrites}
 use Rattle.script.proofs.Laws.{rows-fit}
 use Rattle.rig.specs.Rig.{unpowered, noFaults, played, imageAfter, plays, playsImage, onScript, afterPlay}
 use Rattle.rig.specs.declared.Bench.{Bench}
 use Rattle.rig.proofs.Laws.{unpowered-sound}
-use Rattle.log_lives.specs.Lives.{callsOf, lifeFrom, lifeOf, lifeAfter, deviceBefore, deviceAfter, NoneDecodes}
+use Rattle.log_lives.specs.Lives.{takes, drainOf, writeOf, callsOf, lifeFrom, lifeOf, lifeAfter, deviceBefore, deviceAfter, NoneDecodes}
 use Rattle.log_lives.specs.Theorem.{Plays, logOf, Erased, Assumed, loggedIn, Safe, Demand3, RecordsStay, NotWritable, ScriptsCallTheWriter, FiveAtMost}
 use Rattle.log_lives.proofs.Lives.{deviceOf, Reaches, Fine, none-faulty, one-a-page, all-go, all-only-log}
 
@@ -52,7 +51,7 @@ assumed-of : (capacity : ℕ) (os : List Operation) (b : Bench) (image : List �
     → NoneDecodes (lifeFrom capacity os b image) d → Life.AllAssumed real (lifeFrom capacity os b image) d
 assumed-of c [] b image d w n = tt
 assumed-of c (offers r ∷ os) b image d w n =
-    go (ltb (b .queue .held) 31) n (λ e m. assumed-of c os (played c (offers r) b image .bench) (imageAfter c (offers r) b image) e (w .1) m)
+    go (takes b) n (λ e m. assumed-of c os (played c (offers r) b image .bench) (imageAfter c (offers r) b image) e (w .1) m)
   where
     rest : List (Call real)
     rest = lifeFrom c os (played c (offers r) b image .bench) (imageAfter c (offers r) b image)
@@ -62,9 +61,9 @@ assumed-of c (offers r ∷ os) b image d w n =
     go true m h = (w .0, h (Life.call real (Life.offers r) d) m)
     go false m h = h d m
 assumed-of c (drains limit whileDisarmed armed succeed next keep ∷ os) b image d w n =
-    (n .0, assumed-of c os _ _ (Life.call real (Life.drains limit whileDisarmed armed succeed (asNext next keep)) d) (w .1) (n .1))
+    (n .0, assumed-of c os _ _ (Life.call real (drainOf limit whileDisarmed armed succeed next keep) d) (w .1) (n .1))
 assumed-of c (writes succeed next keep ∷ os) b image d w n =
-    (n .0, assumed-of c os _ _ (Life.call real (Life.writes succeed (asNext next keep)) d) (w .1) (n .1))
+    (n .0, assumed-of c os _ _ (Life.call real (writeOf succeed next keep) d) (w .1) (n .1))
 assumed-of c (powers ∷ os) b image d w n = (tt, assumed-of c os _ _ (Life.call real Life.powers d) (w .1) n)
 assumed-of c (recovers page flight writable ∷ os) b image d w n = assumed-of c os _ _ d (w .1) n
 assumed-of c (resets ∷ os) b image d w n = assumed-of c os _ _ d (w .1) n

@@ -7,7 +7,6 @@ use mathlib.Core.Bool.{Bool, true, false, not}
 use mathlib.Core.Logic.{_↔_, _⊎_}
 use mathlib.Core.List.{List, [], _∷_, _++_}
 use lib.ListN.{length}
-use Rattle.log_views.specs.Views.{asNext}
 use Rattle.power.specs.Pages.{Each}
 use Rattle.power.specs.Life.{Call, Device}
 use Rattle.power.specs.Life as Life
@@ -24,7 +23,7 @@ use Rattle.log_state.specs.declared.LogWriter.{LogWriter}
 use Rattle.log_pages.specs.Store.{real}
 use Rattle.script.specs.Script.{Operation, offers, drains, writes, powers, recovers, resets, flushes, operations}
 use Rattle.rig.specs.Rig.{afterPlay}
-use Rattle.log_lives.specs.Lives.{lifeOf, lifeAfter, deviceBefore, deviceAfter}
+use Rattle.log_lives.specs.Lives.{drainOf, writeOf, lifeOf, lifeAfter, deviceBefore, deviceAfter}
 use Rattle.log_lives.specs.Theorem.{Plays, logOf, Erased, Assumed, loggedIn, benchAfter}
 
 -- A board: its script is played from an erased log, no unfinished page decodes, and no record is offered that has the boot-session bit already.
@@ -76,8 +75,8 @@ OneTornPage =
 abbrev pub LeavesUnfinished : Operation → Device real → List ℕ → Type 0
 LeavesUnfinished (offers r) d left = ⊥
 LeavesUnfinished (drains limit whileDisarmed armed succeed next keep) d left =
-    (page : List ℕ) × (unfinishedIn real (Life.drains limit whileDisarmed armed succeed (asNext next keep)) d ≡ some (page, left))
-LeavesUnfinished (writes succeed next keep) d left = (page : List ℕ) × (unfinishedIn real (Life.writes succeed (asNext next keep)) d ≡ some (page, left))
+    (page : List ℕ) × (unfinishedIn real (drainOf limit whileDisarmed armed succeed next keep) d ≡ some (page, left))
+LeavesUnfinished (writes succeed next keep) d left = (page : List ℕ) × (unfinishedIn real (writeOf succeed next keep) d ≡ some (page, left))
 LeavesUnfinished powers d left = ⊥
 LeavesUnfinished (recovers page flight writable) d left = ⊥
 LeavesUnfinished resets d left = ⊥

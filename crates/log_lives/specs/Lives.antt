@@ -1,7 +1,7 @@
 -- The life that a script plays: its operations as calls of the theory `power`, whose history says what was logged in each power-on.
 use Prim.Native.Nat.{ℕ}
 use mathlib.Core.Path.{_≡_}
-use mathlib.Core.Bool.{cond, false}
+use mathlib.Core.Bool.{Bool, cond, false}
 use mathlib.Core.List.{List, [], _∷_, _++_}
 use lib.Dec.{ltb}
 use lib.ListN.{replicate}
@@ -32,11 +32,22 @@ abbrev pub EachOfLife : List Operation → Type 0
 EachOfLife [] = Unit {0}
 EachOfLife (o ∷ os) = OfLife o × EachOfLife os
 
--- the calls that an operation is: an offer to a queue that holds 31 is refused, and is none
+-- "a record offered to a queue that holds 31" is refused, any other is taken
+abbrev pub takes : Bench → Bool
+takes b = ltb (b .queue .held) 31
+
+-- a drain and a write_pending of a script as calls
+abbrev pub drainOf : ℕ → Bool → Bool → ℕ → NextProgram → List ℕ → Call real
+drainOf limit whileDisarmed armed succeed next keep = Life.drains limit whileDisarmed armed succeed (asNext next keep)
+
+abbrev pub writeOf : ℕ → NextProgram → List ℕ → Call real
+writeOf succeed next keep = Life.writes succeed (asNext next keep)
+
+-- the calls that an operation is: an offer that is refused is none
 abbrev pub callsOf : Operation → Bench → List (Call real)
-callsOf (offers r) b = cond (ltb (b .queue .held) 31) (Life.offers r ∷ []) []
-callsOf (drains limit whileDisarmed armed succeed next keep) b = Life.drains limit whileDisarmed armed succeed (asNext next keep) ∷ []
-callsOf (writes succeed next keep) b = Life.writes succeed (asNext next keep) ∷ []
+callsOf (offers r) b = cond (takes b) (Life.offers r ∷ []) []
+callsOf (drains limit whileDisarmed armed succeed next keep) b = drainOf limit whileDisarmed armed succeed next keep ∷ []
+callsOf (writes succeed next keep) b = writeOf succeed next keep ∷ []
 callsOf powers b = Life.powers ∷ []
 callsOf (recovers page flight writable) b = []
 callsOf resets b = []

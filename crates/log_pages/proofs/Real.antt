@@ -7,10 +7,9 @@ use mathlib.Core.List.{List, [], _∷_}
 use mathlib.Core.Option.{none, some}
 use native.Mathlib.Omega.{arith}
 use borrow.Author.Tests.{eq-eqb}
-use lib.Bits.{bitOr, or-lt}
+use lib.Bits.{or-lt, or-add-and, and-high}
 use lib.ListN.{replicate}
 use Rattle.laws.specs.Bits.{bit}
-use Rattle.laws.proofs.Bits.{bit-lt, bit-or}
 use Rattle.power.specs.Pages.{Each, Packs}
 use Rattle.power.specs.Lawful.{Lawful}
 use Rattle.words.specs.Words.{sameBytes}
@@ -74,13 +73,10 @@ pub next-is : (f : ℕ) → f < 2 ^ 32 - 1 → nextFlight f ≡ suc f
 unfolding nextFlight
 next-is f h = omega arith
 
-mask-bit : bit 2 4 ≡ 1
-unfolding bit
-mask-bit = refl
-
+-- the flags with 4 put in are as many more as they lacked, so that omega knows each of their bits
 pub boot-bit : (r : FlightRecord) → hasBootBit (marked true r) ≡ true
-unfolding hasBootBit marked
-boot-bit r = eq-eqb (bit 2 (bitOr (r .flags) 4)) 1 (omega (arith, bit-or 2 (r .flags) 4, bit-lt 2 (r .flags), mask-bit))
+unfolding hasBootBit marked bit
+boot-bit r = omega (arith, or-add-and (r .flags) 4, and-high (r .flags) 1 2, eq-eqb)
 
 pub real-lawful : Lawful real
 real-lawful =

@@ -13,9 +13,8 @@ use Rattle.power.specs.Writer as Model
 use Rattle.power.specs.Calls as Theory
 use Rattle.layout.specs.Layout.{logStart}
 use Rattle.blackbox.specs.declared.FlightRecord.{FlightRecord}
-use Rattle.queue.specs.Queue.{recordsFrom, recordsHeld}
 use Rattle.queue.specs.declared.Dequeued.{Dequeued}
-use Rattle.queue.proofs.Laws.{held-first, none-leaves, one-leaves}
+use Rattle.queue.proofs.Laws.{none-leaves, one-leaves}
 use Rattle.assembler.specs.Assembler.{stopped}
 use Rattle.log_state.specs.Writer.{withAssembler, ended, logged}
 use Rattle.log_state.specs.WellFormed.{SoundWriter}
@@ -28,8 +27,8 @@ use Rattle.log_writer.proofs.Turns.{still, still-image, another, another-image}
 use Rattle.log_writer.proofs.Keeps.{turn-sound}
 use Rattle.log_laws.proofs.OnlyLog.{turn-only}
 use Rattle.log_pages.specs.Store.{real, pagesOf}
-use Rattle.log_views.specs.Views.{asWriter, asNext, asPass}
-use Rattle.log_views.proofs.Steps.{stopped-is}
+use Rattle.log_views.specs.Views.{asWriter, asQueue, asNext, asPass}
+use Rattle.log_views.proofs.Steps.{none-held, one-held, stopped-is}
 use Rattle.log_views.proofs.Turns.{viewedAs, Is, stepped, turn-is}
 
 -- a pass of the theory is a pass of the code, with an image, and with something logged and something left unfinished
@@ -104,22 +103,22 @@ module _ (pages : ℕ) (next : NextProgram) (keep : List ℕ) (whileDisarmed : B
     view = asPass pages next keep p image l u
 
     -- not writable: one record is dropped
-    none-dropped : p .queue .held ≡ 0 → asPass pages next keep (dropping p) image l u ≡ Theory.withQueue real (Theory.dropOne real (recordsHeld (p .queue))) view
+    none-dropped : p .queue .held ≡ 0 → asPass pages next keep (dropping p) image l u ≡ Theory.withQueue real (Theory.dropOne real (asQueue (p .queue))) view
     unfolding dropping
     none-dropped e =
         ap (λ (d : Dequeued). asPass pages next keep (droppingIt p d) image l u) (none-leaves (p .queue) e)
-        ∙ ap (λ (n : ℕ). viewed (asWriter (p .writer)) (recordsFrom (p .queue .slots) (p .queue .first) n)) e
-        ∙ sym (ap (λ (n : ℕ). viewed (asWriter (p .writer)) (Theory.dropOne real (recordsFrom (p .queue .slots) (p .queue .first) n))) e)
+        ∙ ap (viewed (asWriter (p .writer))) (none-held (p .queue) e)
+        ∙ sym (ap (λ (queue : List FlightRecord). viewed (asWriter (p .writer)) (Theory.dropOne real queue)) (none-held (p .queue) e))
 
     one-dropped : (n : ℕ) → p .queue .held ≡ suc n
-        → asPass pages next keep (dropping p) image l u ≡ Theory.withQueue real (Theory.dropOne real (recordsHeld (p .queue))) view
+        → asPass pages next keep (dropping p) image l u ≡ Theory.withQueue real (Theory.dropOne real (asQueue (p .queue))) view
     unfolding dropping
     one-dropped n e =
         ap (λ (d : Dequeued). asPass pages next keep (droppingIt p d) image l u) (one-leaves (p .queue) (λ z. omega arith))
-        ∙ ap (λ (queue : List FlightRecord). viewed (asWriter (p .writer)) (Theory.dropOne real queue)) (sym (held-first (p .queue) n e))
+        ∙ ap (λ (queue : List FlightRecord). viewed (asWriter (p .writer)) (Theory.dropOne real queue)) (sym (one-held (p .queue) n e))
 
     dropped-is : (n : ℕ) → p .queue .held ≡ n
-        → asPass pages next keep (dropping p) image l u ≡ Theory.withQueue real (Theory.dropOne real (recordsHeld (p .queue))) view
+        → asPass pages next keep (dropping p) image l u ≡ Theory.withQueue real (Theory.dropOne real (asQueue (p .queue))) view
     dropped-is zero e = none-dropped e
     dropped-is (suc n) e = one-dropped n e
 
@@ -140,8 +139,8 @@ module _ (pages : ℕ) (next : NextProgram) (keep : List ℕ) (whileDisarmed : B
     unfolding counted
     rests-at s true c on e = refl
     rests-at s false true on e = refl
-    rests-at s false false true e = ap (λ (w : Model.Writer real). viewed w (recordsHeld (p .queue))) (ended-is s true e)
-    rests-at s false false false e = ap (λ (w : Model.Writer real). viewed w (recordsHeld (p .queue))) (ended-is s false e)
+    rests-at s false false true e = ap (λ (w : Model.Writer real). viewed w (asQueue (p .queue))) (ended-is s true e)
+    rests-at s false false false e = ap (λ (w : Model.Writer real). viewed w (asQueue (p .queue))) (ended-is s false e)
 
     rests-is : SoundWriter (p .writer) → asPass pages next keep (onEmptyQueue whileDisarmed armed p) image l u ≡ Theory.onEmptyQueue real whileDisarmed armed view
     unfolding onEmptyQueue
@@ -152,7 +151,7 @@ module _ (pages : ℕ) (next : NextProgram) (keep : List ℕ) (whileDisarmed : B
 
     module _ (space : logStart + pages * 256 ≤ length image) (s : SoundPass p) (on : p .going ≡ true) where
       writable-is : (n : ℕ) → p .queue .held ≡ n
-          → Ends pages next keep (Theory.drainWritable real limit whileDisarmed armed (recordsHeld (p .queue)) view)
+          → Ends pages next keep (Theory.drainWritable real limit whileDisarmed armed (asQueue (p .queue)) view)
           (cond (eqb (p .queue .held) 0) (onEmptyQueue whileDisarmed armed p) (turns pages next whileDisarmed limit p))
           (cond (eqb (p .queue .held) 0) image (turnsImage pages next whileDisarmed keep limit p image))
       writable-is zero e =
@@ -160,7 +159,7 @@ module _ (pages : ℕ) (next : NextProgram) (keep : List ℕ) (whileDisarmed : B
             logged = l;
             unfinished = u;
             same =
-                ap (λ (n : ℕ). Theory.drainWritable real limit whileDisarmed armed (recordsFrom (p .queue .slots) (p .queue .first) n) view) e
+                ap (λ (queue : List FlightRecord). Theory.drainWritable real limit whileDisarmed armed queue view) (none-held (p .queue) e)
                 ∙ sym (rests-is (s .sound))
                 ∙ ap₂ (λ (x : Pass) (m : List ℕ). asPass pages next keep x m l u)
                 (sym (cond-true (eqb (p .queue .held) 0) _ _ (eq-eqb (p .queue .held) 0 e))) (sym (cond-true (eqb (p .queue .held) 0) _ _ (eq-eqb (p .queue .held) 0 e)));
@@ -172,7 +171,7 @@ module _ (pages : ℕ) (next : NextProgram) (keep : List ℕ) (whileDisarmed : B
             logged = t .logged;
             unfinished = t .unfinished;
             same =
-                ap (λ (queue : List FlightRecord). Theory.drainWritable real limit whileDisarmed armed queue view) (held-first (p .queue) n e)
+                ap (λ (queue : List FlightRecord). Theory.drainWritable real limit whileDisarmed armed queue view) (one-held (p .queue) n e)
                 ∙ t .same
                 ∙ ap₂ (λ (x : Pass) (m : List ℕ). asPass pages next keep x m (t .logged) (t .unfinished))
                 (sym (cond-false (eqb (p .queue .held) 0) _ _ away)) (sym (cond-false (eqb (p .queue .held) 0) _ _ away));
@@ -184,7 +183,7 @@ module _ (pages : ℕ) (next : NextProgram) (keep : List ℕ) (whileDisarmed : B
         where
           go : (z : Bool)
               → Ends pages next keep
-              (cond z (Theory.drainWritable real limit whileDisarmed armed (recordsHeld (p .queue)) view) (Theory.withQueue real (Theory.dropOne real (recordsHeld (p .queue))) view))
+              (cond z (Theory.drainWritable real limit whileDisarmed armed (asQueue (p .queue)) view) (Theory.withQueue real (Theory.dropOne real (asQueue (p .queue))) view))
               (cond z (cond (eqb (p .queue .held) 0) (onEmptyQueue whileDisarmed armed p) (turns pages next whileDisarmed limit p)) (dropping p))
               (cond z (cond (eqb (p .queue .held) 0) image (turnsImage pages next whileDisarmed keep limit p image)) image)
           go true = writable-is (p .queue .held) refl

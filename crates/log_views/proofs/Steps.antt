@@ -14,6 +14,9 @@ use Rattle.power.specs.Writer as Model
 use Rattle.power.specs.Calls as Theory
 use Rattle.blackbox.specs.declared.FlightRecord.{FlightRecord}
 use Rattle.blackbox.specs.Flight.{nextFlight}
+use Rattle.queue.specs.Queue.{oldest, withoutOldest}
+use Rattle.queue.specs.declared.RecordQueue.{RecordQueue}
+use Rattle.queue.proofs.Laws.{held-first}
 use Rattle.assembler.specs.Assembler.{pageAssembler, started, answered, finished, marked, laid, pushed, unrecorded, stopped, withoutReady, taken}
 use Rattle.assembler.specs.Assembler as Assembler
 use Rattle.assembler.specs.Laws.{usedRows, pageOfRows}
@@ -26,7 +29,17 @@ use Rattle.log_state.specs.WellFormed.{SoundWriter}
 use Rattle.log_state.specs.declared.LogWriter.{LogWriter}
 use Rattle.log_state.specs.declared.Logged.{Logged}
 use Rattle.log_pages.specs.Store.{real}
-use Rattle.log_views.specs.Views.{asAssembler, asWriter}
+use Rattle.log_views.specs.Views.{asAssembler, asWriter, asQueue}
+
+-- ---- the queue
+
+-- none waits where none is held
+pub none-held : (q : RecordQueue) → q .held ≡ 0 → asQueue q ≡ []
+none-held q e = rw e refl
+
+-- else the oldest is in front of those that stay
+pub one-held : (q : RecordQueue) (n : ℕ) → q .held ≡ suc n → asQueue q ≡ oldest q ∷ asQueue (withoutOldest q)
+one-held q n e = search held-first
 
 -- ---- a page is fetched
 

@@ -14,10 +14,10 @@ use Rattle.power.specs.Writer as Model
 use Rattle.power.specs.Calls as Theory
 use Rattle.layout.specs.Layout.{logStart}
 use Rattle.blackbox.specs.declared.FlightRecord.{FlightRecord}
-use Rattle.queue.specs.Queue.{empty, recordsFrom, recordsHeld, oldest, withoutOldest}
+use Rattle.queue.specs.Queue.{empty, oldest, withoutOldest}
 use Rattle.queue.specs.declared.RecordQueue.{RecordQueue}
 use Rattle.queue.specs.declared.Dequeued.{Dequeued}
-use Rattle.queue.proofs.Laws.{held-first, none-leaves, one-leaves}
+use Rattle.queue.proofs.Laws.{none-leaves, one-leaves}
 use Rattle.assembler.specs.Assembler as Assembler
 use Rattle.assembler.specs.Assembler.{noPage, withoutReady, readyPage, taken}
 use Rattle.assembler.specs.declared.PageAssembler.{PageAssembler}
@@ -35,9 +35,9 @@ use Rattle.log_writer.specs.declared.NextProgram.the-variants.{Busy, Fault, Cut
 use Rattle.log_pages.specs.Store.{isArmed, pagesOf}
 use Rattle.log_pages.specs.Store.{real}
 use Rattle.log_pages.proofs.Scan.{length-pages}
-use Rattle.log_views.specs.Views.{ifThere, asWriter, asNext, asPass}
+use Rattle.log_views.specs.Views.{asWriter, asQueue, asNext, asPass}
 use Rattle.log_views.proofs.Images.{pages-programmed}
-use Rattle.log_views.proofs.Steps.{fetched-is, logged-is}
+use Rattle.log_views.proofs.Steps.{none-held, one-held, fetched-is, logged-is}
 
 -- a pass of the theory by its fields
 abbrev pub viewedAs : List (List ℕ) → Model.Writer real → List FlightRecord → ℕ → Theory.Next (List ℕ) → ℕ → List (ℕ × FlightRecord)
@@ -80,22 +80,22 @@ module _ (pages : ℕ) (next : NextProgram) (keep : List ℕ) where
     viewedWith w queue more =
         viewedAs (pagesOf pages image) w queue (p .succeed) (asNext next keep) (p .«pages_written») more u (p .cut)
 
-    takes-none : p .queue .held ≡ 0 → Theory.takeNext real whileDisarmed (recordsHeld (p .queue)) viewed ≡ stepped (takingRecord whileDisarmed p .going) (asPass pages next keep (takingRecord whileDisarmed p) image l u)
+    takes-none : p .queue .held ≡ 0 → Theory.takeNext real whileDisarmed (asQueue (p .queue)) viewed ≡ stepped (takingRecord whileDisarmed p .going) (asPass pages next keep (takingRecord whileDisarmed p) image l u)
     unfolding takingRecord halted
     takes-none e =
-        ap (λ (q : List FlightRecord). Theory.takeNext real whileDisarmed q (viewedWith (asWriter (p .writer)) q l)) (ap (recordsFrom (p .queue .slots) (p .queue .first)) e)
-        ∙ ap (λ (q : List FlightRecord). Theory.Step.ends (viewedWith (asWriter (p .writer)) q l)) (sym (ap (recordsFrom (p .queue .slots) (p .queue .first)) e))
+        ap (λ (q : List FlightRecord). Theory.takeNext real whileDisarmed q (viewedWith (asWriter (p .writer)) q l)) (none-held (p .queue) e)
+        ∙ ap (λ (q : List FlightRecord). Theory.Step.ends (viewedWith (asWriter (p .writer)) q l)) (sym (none-held (p .queue) e))
         ∙ ap (λ (d : Dequeued). stepped (takingIn whileDisarmed p d .going) (asPass pages next keep (takingIn whileDisarmed p d) image l u)) (sym (none-leaves (p .queue) e))
 
     takes-one : (n : ℕ) → p .queue .held ≡ suc n → p .going ≡ true → SoundWriter (p .writer) → p .writer .«has_pending» ≡ false
         → p .writer .assembler .«page_ready» ≡ false
-        → Theory.takeNext real whileDisarmed (recordsHeld (p .queue)) viewed
+        → Theory.takeNext real whileDisarmed (asQueue (p .queue)) viewed
         ≡ stepped (takingRecord whileDisarmed p .going) (asPass pages next keep (takingRecord whileDisarmed p) image (l ++ entry) u)
     unfolding takingRecord counted
     takes-one n e on s empty free =
-        ap (λ (q : List FlightRecord). Theory.takeNext real whileDisarmed q (viewedWith (asWriter (p .writer)) q l)) (held-first (p .queue) n e)
-        ∙ ap (λ (w : Model.Writer real). Theory.Step.goes-on (viewedWith w (recordsHeld (withoutOldest (p .queue))) (l ++ entry))) (sym written-as)
-        ∙ ap (λ (z : Bool). stepped z (viewedWith (asWriter (after .writer)) (recordsHeld (withoutOldest (p .queue))) (l ++ entry))) (sym on)
+        ap (λ (q : List FlightRecord). Theory.takeNext real whileDisarmed q (viewedWith (asWriter (p .writer)) q l)) (one-held (p .queue) n e)
+        ∙ ap (λ (w : Model.Writer real). Theory.Step.goes-on (viewedWith w (asQueue (withoutOldest (p .queue))) (l ++ entry))) (sym written-as)
+        ∙ ap (λ (z : Bool). stepped z (viewedWith (asWriter (after .writer)) (asQueue (withoutOldest (p .queue))) (l ++ entry))) (sym on)
         ∙ ap (λ (d : Dequeued). stepped (takingIn whileDisarmed p d .going) (asPass pages next keep (takingIn whileDisarmed p d) image (l ++ entry) u))
         (sym (one-leaves (p .queue) (λ z. omega arith)))
       where
@@ -108,10 +108,10 @@ module _ (pages : ℕ) (next : NextProgram) (keep : List ℕ) where
             ∙ ap (λ (z : Bool). Model.taken real z (p .writer .assembler .recording) first (asWriter (p .writer))) (logs-is whileDisarmed first)
 
     pub takes-is : p .going ≡ true → SoundWriter (p .writer) → p .writer .«has_pending» ≡ false → p .writer .assembler .«page_ready» ≡ false
-        → Is (Theory.takeNext real whileDisarmed (recordsHeld (p .queue)) viewed) (takingRecord whileDisarmed p) image
+        → Is (Theory.takeNext real whileDisarmed (asQueue (p .queue)) viewed) (takingRecord whileDisarmed p) image
     takes-is on s empty free = go (p .queue .held) refl
       where
-        go : (n : ℕ) → p .queue .held ≡ n → Is (Theory.takeNext real whileDisarmed (recordsHeld (p .queue)) viewed) (takingRecord whileDisarmed p) image
+        go : (n : ℕ) → p .queue .held ≡ n → Is (Theory.takeNext real whileDisarmed (asQueue (p .queue)) viewed) (takingRecord whileDisarmed p) image
         go zero e = record { logged = l; unfinished = u; same = takes-none e }
         go (suc n) e = record { logged = l ++ entry; unfinished = u; same = takes-one n e on s empty free }
 
@@ -134,7 +134,7 @@ module _ (pages : ℕ) (keep : List ℕ) (whileDisarmed : Bool) (image : List �
 
   -- the theory's turn from there, and the code's
   abbrev theirs : Bool → ℕ → NextProgram → Theory.Step real
-  theirs has g next = Theory.afterPut real whileDisarmed (Theory.put real (ifThere has page) (asPass pages next keep (f has g) image l u))
+  theirs has g next = Theory.afterPut real whileDisarmed (Theory.put real (asWriter (v has) .waiting) (asPass pages next keep (f has g) image l u))
 
   abbrev ours : Bool → Bool → ℕ → NextProgram → Pass
   ours has room g next =
@@ -154,9 +154,9 @@ module _ (pages : ℕ) (keep : List ℕ) (whileDisarmed : Bool) (image : List �
         ≡ Theory.written real left page (asPass pages next keep (f true (suc left)) image l u)
     unfolding put written
     put-is next left =
-        ap (λ (log : List (List ℕ)). viewedAs log (asWriter (written (v true))) (recordsHeld q) left (asNext next keep) (count + 1) l u gone) (log-is [])
+        ap (λ (log : List (List ℕ)). viewedAs log (asWriter (written (v true))) (asQueue q) left (asNext next keep) (count + 1) l u gone) (log-is [])
         ∙ ap₂ (λ (i j : ℕ). viewedAs (Theory.programmedAt real (pagesOf pages image) at page []) (asWriter (logWriter a page false i flight writable boot since hasSince))
-        (recordsHeld q) left (asNext next keep) j l u gone) (add-one at) (add-one count)
+        (asQueue q) left (asNext next keep) j l u gone) (add-one at) (add-one count)
 
     room-is : ltb at (length (pagesOf pages image)) ≡ true
     room-is = ap (ltb at) (length-pages image 0 pages) ∙ lt-ltb at pages room
@@ -180,7 +180,7 @@ module _ (pages : ℕ) (keep : List ℕ) (whileDisarmed : Bool) (image : List �
         record {
           logged = t .logged;
           unfinished = t .unfinished;
-          same = ap (λ (x : Theory.Pass real). Theory.takeNext real whileDisarmed (recordsHeld q) x) (sym (put-is next left)) ∙ t .same;
+          same = ap (λ (x : Theory.Pass real). Theory.takeNext real whileDisarmed (asQueue q) x) (sym (put-is next left)) ∙ t .same;
         }
 
     fails-is : Is pages Fault keep (programs 0 Fault) (halted (f true 0)) (programmedPage image (v true) keep)
@@ -189,9 +189,7 @@ module _ (pages : ℕ) (keep : List ℕ) (whileDisarmed : Bool) (image : List �
         record {
           logged = l;
           unfinished = some (page, Theory.programmedCell real (pagesOf pages image) at page keep);
-          same =
-              ap (λ (log : List (List ℕ)). Theory.Step.ends (viewedAs log (asWriter (v true)) (recordsHeld q) 0 (Theory.Next.fault keep) count l
-              (some (page, Theory.programmedCell real (pagesOf pages image) at page keep)) gone)) (sym (log-is keep));
+          same = rw (log-is keep) refl;
         }
 
     cuts-is : Is pages Cut keep (programs 0 Cut) (severed (f true 0)) (programmedPage image (v true) keep)
@@ -200,9 +198,7 @@ module _ (pages : ℕ) (keep : List ℕ) (whileDisarmed : Bool) (image : List �
         record {
           logged = l;
           unfinished = some (page, Theory.programmedCell real (pagesOf pages image) at page keep);
-          same =
-              ap (λ (log : List (List ℕ)). Theory.Step.ends (viewedAs log (asWriter fresh) [] 0 (Theory.Next.cut keep) count l
-              (some (page, Theory.programmedCell real (pagesOf pages image) at page keep)) true)) (sym (log-is keep));
+          same = rw (log-is keep) refl;
         }
 
     halts-is : Is pages Busy keep (programs 0 Busy) (halted (f true 0)) image
@@ -276,7 +272,7 @@ module _ (pages : ℕ) (next : NextProgram) (keep : List ℕ) (whileDisarmed : B
         unfinished = t .unfinished;
         same =
             ap (λ (x : Model.Writer real). Theory.afterPut real whileDisarmed (Theory.put real (x .waiting)
-            (viewedAs (pagesOf pages image) x (recordsHeld q) g (asNext next keep) count l u gone))) (sym (fetched-is w)) ∙ t .same;
+            (viewedAs (pagesOf pages image) x (asQueue q) g (asNext next keep) count l u gone))) (sym (fetched-is w)) ∙ t .same;
       }
 
   pub turn-is : (p : Pass) (image : List ℕ) (l : List (ℕ × FlightRecord)) (u : Option (List ℕ × List ℕ)) → logStart + pages * 256 ≤ length image

@@ -12,7 +12,7 @@ use Rattle.power.specs.Writer as Model
 use Rattle.power.specs.Calls as Theory
 use Rattle.layout.specs.Layout.{logStart}
 use Rattle.store.specs.Store.{mask}
-use Rattle.queue.specs.Queue.{empty, recordsHeld}
+use Rattle.queue.specs.Queue.{empty}
 use Rattle.queue.specs.declared.RecordQueue.{RecordQueue}
 use Rattle.assembler.specs.Assembler as Assembler
 use Rattle.assembler.specs.declared.PageAssembler.{PageAssembler}
@@ -28,7 +28,7 @@ use Rattle.log_writer.specs.declared.NextProgram.the-variants.{Busy, Fault, Cut
 use Rattle.log_writer.specs.declared.PageWrite.the-variants.{Nothing, RegionFull}
 use Rattle.log_pages.specs.Store.{real, pagesOf}
 use Rattle.log_pages.proofs.Scan.{length-pages}
-use Rattle.log_views.specs.Views.{ifThere, asWriter, asNext, asPass}
+use Rattle.log_views.specs.Views.{asWriter, asQueue, asNext, asPass}
 use Rattle.log_views.proofs.Images.{pages-programmed}
 use Rattle.log_views.proofs.Steps.{fetched-if-is}
 
@@ -36,7 +36,7 @@ use Rattle.log_views.proofs.Steps.{fetched-if-is}
 pub record Leaves (pages : ℕ) (t : Theory.Pass real) (answer : WriteAnswer) (image : List ℕ) : Type 0 where
   pub log : t .log ≡ pagesOf pages image
   pub writer : t .writer ≡ asWriter (answer .writer)
-  pub queue : t .queue ≡ recordsHeld (answer .queue)
+  pub queue : t .queue ≡ asQueue (answer .queue)
   pub logged : t .logged ≡ []
 
 leaves-as : {pages : ℕ} {t x : Theory.Pass real} {b : WriteAnswer} {m : List ℕ} → t ≡ x → Leaves pages x b m → Leaves pages t b m
@@ -57,7 +57,7 @@ module _ (pages : ℕ) (keep image : List ℕ) (space : logStart + pages * 256 �
   view has g next = asPass pages next keep (begin (v has) q g) image [] none
 
   abbrev theirs : Bool → ℕ → NextProgram → Theory.Pass real
-  theirs has g next = Theory.writeOne real (ifThere has page) (view has g next)
+  theirs has g next = Theory.writeOne real (asWriter (v has) .waiting) (view has g next)
 
   abbrev ours : Bool → Bool → ℕ → NextProgram → WriteAnswer
   ours has room g next =

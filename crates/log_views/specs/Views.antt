@@ -10,6 +10,7 @@ use Rattle.blackbox.specs.declared.FlightRecord.{FlightRecord}
 use Rattle.assembler.specs.Laws.{usedRows}
 use Rattle.assembler.specs.declared.PageAssembler.{PageAssembler}
 use Rattle.queue.specs.Queue.{recordsHeld}
+use Rattle.queue.specs.declared.RecordQueue.{RecordQueue}
 use Rattle.log_state.specs.declared.LogWriter.{LogWriter}
 use Rattle.log_writer.specs.declared.Pass.{Pass}
 use Rattle.log_writer.specs.declared.NextProgram.{NextProgram}
@@ -45,6 +46,10 @@ asWriter w =
       markDue = w .«boot_session_start»;
     }
 
+-- the records that wait, the oldest first
+abbrev pub asQueue : RecordQueue → List FlightRecord
+asQueue q = recordsHeld q
+
 -- a fault and a cut leave what the keep mask says
 abbrev pub asNext : NextProgram → List ℕ → Theory.Next (List ℕ)
 asNext Busy keep = Theory.Next.busy
@@ -57,7 +62,7 @@ asPass pages next keep p image logged unfinished =
     record {
       log = pagesOf pages image;
       writer = asWriter (p .writer);
-      queue = recordsHeld (p .queue);
+      queue = asQueue (p .queue);
       succeed = p .succeed;
       next = asNext next keep;
       pagesWritten = p .«pages_written»;
