@@ -24,7 +24,8 @@ use Rattle.records.specs.Pages.{readPage, blankAt, flightIn, ownAt, orElse, pag
 use Rattle.records.specs.Scan.{usedPages, appending, ifBegun, verdict, scanPages, scanned}
 use Rattle.records.specs.declared.PageFlight.{PageFlight}
 use Rattle.records.specs.declared.Scan.{Scan}
-use Rattle.sync_ledger.specs.Ledger.{headerAt, readHeader, inRange, located, bitLocation, byteRead, syncedUnder, syncedAt, isSynced, stepUnder, stepAt, nextMarkStep, stepStores, asked, stepTold}
+use Rattle.sync_ledger.specs.Ledger.{headerAt, readHeader, inRange, located, bitLocation, byteRead, isSynced, stepUnder, stepAt, nextMarkStep, stepStores, asked, stepTold}
+use Rattle.sync_ledger.proofs.Agree.{synced-where-done}
 use Rattle.sync_ledger.specs.declared.LedgerHeader.{LedgerHeader}
 use Rattle.sync_ledger.specs.declared.LedgerHeader.the-variants.{Blank, Valid, Foreign}
 use Rattle.sync_ledger.specs.declared.MarkStep.{MarkStep}
@@ -327,18 +328,6 @@ module _ (c : ℕ) (image faults : List ℕ) where
   unfolding bitLocation located
   bit f = capacity c _ (test Anything (inRange f) Number.outOfRange _ eight (any _))
 
-  under : (address k : ℕ) (h : LedgerHeader) → Proper (syncedUnder image faults address k h)
-  unfolding syncedUnder
-  under address k Blank = any false
-  under address k Foreign = any false
-  under address k Valid = call Anything Anything _ _ (reading Anything faults address _ tt) (λ b _. any _)
-
-  pub synced : (f : ℕ) → Proper (isSynced c image faults f)
-  unfolding isSynced syncedAt
-  synced f =
-      on-lengths Anything c (length image) (length faults) (c / 256) _
-      (test Anything (inRange f) Number.outOfRange _ eight (call Anything Anything _ _ (heading (ledgerAt c)) (λ h _. under _ _ h)))
-
   planned : (ledger address k : ℕ) (h : LedgerHeader) → Proper (stepUnder ledger image faults address k h)
   unfolding stepUnder
   planned ledger address k Foreign = any _
@@ -350,6 +339,9 @@ module _ (c : ℕ) (image faults : List ℕ) where
   mark-step f =
       on-lengths Anything c (length image) (length faults) (c / 256) _
       (test Anything (inRange f) Number.outOfRange _ eight (call Anything Anything _ _ (heading (ledgerAt c)) (λ h _. planned _ _ _ h)))
+
+  pub synced : (f : ℕ) → Proper (isSynced c image faults f)
+  synced f = rw (synced-where-done c image faults f) (call Anything Anything _ _ (mark-step f) (λ step _. any _))
 
   -- ---- log sync
 
