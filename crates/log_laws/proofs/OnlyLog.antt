@@ -22,7 +22,7 @@ use Rattle.log_writer.specs.Pass.{begin, withWriter, busyNow, keptBy, turn, pro
 use Rattle.log_writer.specs.Calls.{goesWell, afterDrain, writeImage, afterWrite}
 use Rattle.log_writer.specs.WellFormed.{SoundPass}
 use Rattle.log_writer.specs.declared.Pass.{Pass}
-use Rattle.log_writer.specs.declared.NextProgram.{NextProgram}
+use Rattle.log_writer.specs.declared.DrainOrder.{DrainOrder}
 use Rattle.log_writer.proofs.Keeps.{turn-sound}
 use Rattle.log_laws.specs.Laws.{DrainOnlyLog, WriteOnlyLog}
 
@@ -72,11 +72,11 @@ module _ (pages : ℕ) (image : List ℕ) (room : logStart + pages * 256 ≤ len
 
 -- ---- turn by turn
 
-pub turn-only : (pages : ℕ) (next : NextProgram) (keep : List ℕ) (p : Pass) (image : List ℕ) → SoundPass p → logStart + pages * 256 ≤ length image
-    → OnlyAt logStart (pages * 256) image (turnImage pages next keep p image)
+pub turn-only : (pages : ℕ) (order : DrainOrder) (keep : List ℕ) (p : Pass) (image : List ℕ) → SoundPass p → logStart + pages * 256 ≤ length image
+    → OnlyAt logStart (pages * 256) image (turnImage pages order keep p image)
 unfolding turnImage withWriter
-turn-only pages next keep p image s room =
-    go (fetched (p .writer) .«has_pending») (busyNow (p .succeed) next) (ltb (fetched (p .writer) .«next_page») pages) refl
+turn-only pages order keep p image s room =
+    go (fetched (p .writer) .«has_pending») (busyNow (p .succeed) (order .next)) (ltb (fetched (p .writer) .«next_page») pages) refl
   where
     after : List ℕ
     after = programmedPage image (fetched (p .writer)) (keptBy (p .succeed) keep)
@@ -90,22 +90,22 @@ turn-only pages next keep p image s room =
     go true false false e = only-same logStart (pages * 256) image
     go false y z e = only-same logStart (pages * 256) image
 
-turns-only : (pages : ℕ) (next : NextProgram) (b : Bool) (keep : List ℕ) (n : ℕ) (p : Pass) (image : List ℕ) → SoundPass p
-    → logStart + pages * 256 ≤ length image → OnlyAt logStart (pages * 256) image (turnsImage pages next b keep n p image)
+turns-only : (pages : ℕ) (order : DrainOrder) (keep : List ℕ) (n : ℕ) (p : Pass) (image : List ℕ) → SoundPass p
+    → logStart + pages * 256 ≤ length image → OnlyAt logStart (pages * 256) image (turnsImage pages order keep n p image)
 unfolding turnsImage
-turns-only pages next b keep zero p image s room = only-same logStart (pages * 256) image
-turns-only pages next b keep (suc n) p image s room =
-    go (turns-only pages next b keep n (turn pages next b p) after (turn-sound pages next b p s) (omega (arith, once .long))) (p .going)
+turns-only pages order keep zero p image s room = only-same logStart (pages * 256) image
+turns-only pages order keep (suc n) p image s room =
+    go (turns-only pages order keep n (turn pages order p) after (turn-sound pages order p s) (omega (arith, once .long))) (p .going)
   where
     after : List ℕ
-    after = turnImage pages next keep p image
+    after = turnImage pages order keep p image
 
     once : OnlyAt logStart (pages * 256) image after
-    once = turn-only pages next keep p image s room
+    once = turn-only pages order keep p image s room
 
-    go : OnlyAt logStart (pages * 256) after (turnsImage pages next b keep n (turn pages next b p) after) → (z : Bool)
-        → OnlyAt logStart (pages * 256) image (cond z (turnsImage pages next b keep n (turn pages next b p) after) image)
-    go ih true = only-then logStart (pages * 256) image after (turnsImage pages next b keep n (turn pages next b p) after) once ih
+    go : OnlyAt logStart (pages * 256) after (turnsImage pages order keep n (turn pages order p) after) → (z : Bool)
+        → OnlyAt logStart (pages * 256) image (cond z (turnsImage pages order keep n (turn pages order p) after) image)
+    go ih true = only-then logStart (pages * 256) image after (turnsImage pages order keep n (turn pages order p) after) once ih
     go ih false = only-same logStart (pages * 256) image
 
 -- ---- the calls
@@ -116,18 +116,18 @@ has-room c h = omega (arith, valid c h .above)
 
 pub drain-only-log : DrainOnlyLog
 unfolding afterDrain onLengths onImage drainImage
-drain-only-log limit c image keep next b w q succeed s = go (validCapacity c) (eqb (length image) c) (eqb (length keep) 256) refl refl
+drain-only-log order c image keep w q s = go (validCapacity c) (eqb (length image) c) (eqb (length keep) 256) refl refl
   where
     p : Pass
-    p = begin w q succeed
+    p = begin w q (order .succeed)
 
     after : List ℕ
-    after = drainImage (pagesIn c) next b keep limit p image
+    after = drainImage (pagesIn c) order keep p image
 
     inner : logStart + pagesIn c * 256 ≤ length image → (x y : Bool)
-        → OnlyAt logStart (pagesIn c * 256) image (cond x (cond y image (turnsImage (pagesIn c) next b keep limit p image)) image)
+        → OnlyAt logStart (pagesIn c * 256) image (cond x (cond y image (turnsImage (pagesIn c) order keep (order .limit) p image)) image)
     inner room true true = only-same logStart (pagesIn c * 256) image
-    inner room true false = turns-only (pagesIn c) next b keep limit p image (record { sound = s .0; held = s .1 }) room
+    inner room true false = turns-only (pagesIn c) order keep (order .limit) p image (record { sound = s .0; held = s .1 }) room
     inner room false y = only-same logStart (pagesIn c * 256) image
 
     go : (x y z : Bool) → validCapacity c ≡ x → eqb (length image) c ≡ y

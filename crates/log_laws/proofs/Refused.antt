@@ -26,13 +26,13 @@ same w q image = record { writer = refl; queue = refl; image = refl }
 
 pub drain-refused : DrainRefused
 unfolding drained afterDrain onLengths onImage
-drain-refused limit c image keep next b armed w q succeed = go (validCapacity c) (eqb (length image) c) (eqb (length keep) 256)
+drain-refused order c image keep w q = go (validCapacity c) (eqb (length image) c) (eqb (length keep) 256)
   where
     p : Pass
-    p = drainPass (pagesIn c) next b armed limit (begin w q succeed)
+    p = drainPass (pagesIn c) order (begin w q (order .succeed))
 
     after : List ℕ
-    after = drainImage (pagesIn c) next b keep limit (begin w q succeed) image
+    after = drainImage (pagesIn c) order keep (begin w q (order .succeed)) image
 
     tests : {A : Type 0} → Bool → Bool → Bool → A → Answer A
     tests x y z a = must x invalidLayout (must y badLength (must z badLength (gives a)))

@@ -1,7 +1,7 @@
 -- What document 01 says of drain and write_pending beyond each call's own answer, as statements; proofs/ shows them.
 use Prim.Native.Nat.{ℕ, _+_, _*_}
 use mathlib.Core.Path.{_≡_}
-use mathlib.Core.Bool.{Bool, true, false}
+use mathlib.Core.Bool.{true, false}
 use mathlib.Core.List.{List}
 use lib.ListN.{length}
 use Rattle.layout.specs.Layout.{logStart, pagesIn}
@@ -10,6 +10,7 @@ use Rattle.queue.specs.declared.RecordQueue.{RecordQueue}
 use Rattle.log_state.specs.declared.LogWriter.{LogWriter}
 use Rattle.log_writer.specs.Calls.{drained, afterDrain, pageWritten, afterWrite}
 use Rattle.log_writer.specs.Laws.{BothSound}
+use Rattle.log_writer.specs.declared.DrainOrder.{DrainOrder}
 use Rattle.log_writer.specs.declared.NextProgram.{NextProgram}
 use Rattle.log_writer.specs.declared.DrainAnswer.{DrainAnswer}
 
@@ -22,17 +23,16 @@ pub record PagesCounted (w : LogWriter) (succeed : ℕ) (answer : DrainAnswer) :
 
 abbrev pub DrainCounts : Type 0
 DrainCounts =
-    (limit capacity : ℕ) (image keep : List ℕ) (next : NextProgram) (whileDisarmed armed : Bool) (w : LogWriter) (q : RecordQueue) (succeed : ℕ)
-    → PagesCounted w succeed (drained limit capacity image keep next whileDisarmed armed w q succeed)
+    (order : DrainOrder) (capacity : ℕ) (image keep : List ℕ) (w : LogWriter) (q : RecordQueue)
+    → PagesCounted w (order .succeed) (drained order capacity image keep w q)
 
 -- ---- the image
 
 -- a drain touches only pages of the log, and keeps the image's length
 abbrev pub DrainOnlyLog : Type 0
 DrainOnlyLog =
-    (limit capacity : ℕ) (image keep : List ℕ) (next : NextProgram) (whileDisarmed : Bool) (w : LogWriter) (q : RecordQueue) (succeed : ℕ)
-    → BothSound w q
-    → OnlyAt logStart (pagesIn capacity * 256) image (afterDrain limit capacity image keep next whileDisarmed w q succeed)
+    (order : DrainOrder) (capacity : ℕ) (image keep : List ℕ) (w : LogWriter) (q : RecordQueue) → BothSound w q
+    → OnlyAt logStart (pagesIn capacity * 256) image (afterDrain order capacity image keep w q)
 
 abbrev pub WriteOnlyLog : Type 0
 WriteOnlyLog =
@@ -49,11 +49,10 @@ pub record Unaltered (w v : LogWriter) (q u : RecordQueue) (before after : List 
 
 abbrev pub DrainRefused : Type 0
 DrainRefused =
-    (limit capacity : ℕ) (image keep : List ℕ) (next : NextProgram) (whileDisarmed armed : Bool) (w : LogWriter) (q : RecordQueue) (succeed : ℕ)
-    → (drained limit capacity image keep next whileDisarmed armed w q succeed .refused ≡ 0 → ⊥)
-    → Unaltered w (drained limit capacity image keep next whileDisarmed armed w q succeed .writer) q
-    (drained limit capacity image keep next whileDisarmed armed w q succeed .queue) image
-    (afterDrain limit capacity image keep next whileDisarmed w q succeed)
+    (order : DrainOrder) (capacity : ℕ) (image keep : List ℕ) (w : LogWriter) (q : RecordQueue)
+    → (drained order capacity image keep w q .refused ≡ 0 → ⊥)
+    → Unaltered w (drained order capacity image keep w q .writer) q (drained order capacity image keep w q .queue) image
+    (afterDrain order capacity image keep w q)
 
 abbrev pub WriteRefused : Type 0
 WriteRefused =

@@ -84,7 +84,7 @@ module _ (c : ℕ) where
           → (Heeds rest (Life.lives real (callsOf x b) d) → Within real 31 rest (Life.lives real (callsOf x b) d))
           → Heeds (callsOf x b ++ rest) d → Within real 31 (callsOf x b ++ rest) d
       step (offers r) z e k m = offered r (takes b) k m
-      step (drains limit whileDisarmed armed succeed next keep) z e k m = one (drainOf limit whileDisarmed armed succeed next keep) k m
+      step (drains order keep) z e k m = one (drainOf order keep) k m
       step (writes succeed next keep) z e k m = one (writeOf succeed next keep) k m
       step powers z e k m = one Life.powers k m
       step (recovers page flight writable) z e k m = k m
@@ -154,7 +154,7 @@ no-power (offers r ∷ os) b c image h = go (takes b) (no-power os (played c (of
         → Theory.NoPowerOn real (cond z (Life.offers r ∷ []) [] ++ lifeFrom c os (played c (offers r) b image .bench) (imageAfter c (offers r) b image))
     go true k = k
     go false k = k
-no-power (drains limit whileDisarmed armed succeed next keep ∷ os) b c image h = no-power os _ c _ h
+no-power (drains order keep ∷ os) b c image h = no-power os _ c _ h
 no-power (writes succeed next keep ∷ os) b c image h = no-power os _ c _ h
 no-power (powers ∷ os) b c image h = absurd h
 no-power (recovers page flight writable ∷ os) b c image h = no-power os _ c _ h
@@ -253,10 +253,10 @@ torn-is-left c image script output longer output′ (offers r) p b e i t =
         ≡ Life.lives real (lifeOf c image script) (Life.unpowered real (erased real (pagesIn c))) .log
     go true = refl
     go false = refl
-torn-is-left c image script output longer output′ (drains limit whileDisarmed armed succeed next keep) p b e i t =
-    left-by c image script output longer output′ p b (lifeAfter c image script (drains limit whileDisarmed armed succeed next keep ∷ []))
-    (longer-life c image script longer (drains limit whileDisarmed armed succeed next keep ∷ []) e)
-    (drainOf limit whileDisarmed armed succeed next keep) refl i t
+torn-is-left c image script output longer output′ (drains order keep) p b e i t =
+    left-by c image script output longer output′ p b (lifeAfter c image script (drains order keep ∷ []))
+    (longer-life c image script longer (drains order keep ∷ []) e)
+    (drainOf order keep) refl i t
 torn-is-left c image script output longer output′ (writes succeed next keep) p b e i t =
     left-by c image script output longer output′ p b (lifeAfter c image script (writes succeed next keep ∷ []))
     (longer-life c image script longer (writes succeed next keep ∷ []) e) (writeOf succeed next keep) refl i t

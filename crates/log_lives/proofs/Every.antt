@@ -25,6 +25,7 @@ use Rattle.log_views.specs.Views.{asNext}
 use Rattle.script.specs.Script.{Operation, rowsIn, scriptOf}
 use Rattle.script.specs.Laws.{Writes, EachWrites}
 use Rattle.script.proofs.Laws.{has-script}
+use Rattle.log_writer.specs.Pass.{drainOrder}
 use Rattle.rig.specs.Rig.{unpowered, played, imageAfter}
 use Rattle.rig.specs.declared.Bench.{Bench}
 use Rattle.rig.proofs.Laws.{unpowered-sound}
@@ -75,7 +76,7 @@ call-back c b image past now (Life.offers r) f h =
     ap (λ (z : Bool). cond z (Life.offers r ∷ []) []) {x = takes b} {y = true}
     (omega (arith, h .1, holds-at-most-31 (b .queue) (f .sound .queue) .0, lt-ltb))
 call-back c b image past now (Life.drains limit whileDisarmed armed succeed next) f h =
-    ap (λ (y : Call real). y ∷ []) (drain-called limit whileDisarmed armed succeed (nextOf next) (keepOf next))
+    ap (λ (y : Call real). y ∷ []) (drain-called (drainOrder limit armed whileDisarmed succeed (nextOf next)) (keepOf next))
     ∙ ap (λ (n : Next (List ℕ)). Life.drains limit whileDisarmed armed succeed n ∷ []) (next-back next)
 call-back c b image past now (Life.writes succeed next) f h = ap (λ (n : Next (List ℕ)). Life.writes succeed n ∷ []) (next-back next)
 call-back c b image past now Life.powers f h = refl

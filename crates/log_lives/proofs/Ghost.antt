@@ -67,7 +67,7 @@ module _ (c : ℕ) (image script output longer output′ : List ℕ) (p : Plays 
       → loggedIn c image longer ≡ loggedIn c image script
   logs-none o e h = ap (Life.history real) (after-one o e) ∙ h
 
-  module _ (limit : ℕ) (whileDisarmed armed : Bool) (succeed : ℕ) (o : Operation) (e : operations longer ≡ operations script ++ o ∷ []) where
+  module _ (whileDisarmed : Bool) (succeed : ℕ) (o : Operation) (e : operations longer ≡ operations script ++ o ∷ []) where
     same : SameDevice c image script output
     same = devices-agree c image script output p
 
@@ -111,19 +111,18 @@ module _ (c : ℕ) (image script output longer output′ : List ℕ) (p : Plays 
       go : (z : Bool) → Life.history real (Life.lives real (cond z (Life.offers r ∷ []) []) d) ≡ Life.history real d
       go true = refl
       go false = refl
-  logged-by (drains limit whileDisarmed armed succeed next keep) e = (
+  logged-by (drains order keep) e = (
     λ on.
-        drained limit whileDisarmed armed succeed (drains limit whileDisarmed armed succeed next keep) e
-        (drainOf limit whileDisarmed armed succeed next keep) (asNext next keep) (drain real limit whileDisarmed armed (Life.begin real d succeed (asNext next keep))) refl
-        (ap (λ (x : Call real). Life.call real x d) (drain-called limit whileDisarmed armed succeed next keep))
-        (drain-logs real real-lawful d limit whileDisarmed armed succeed (asNext next keep) (ap (λ (w : Writer real). w .writable) (devices-agree c image script output p .writer) ∙ on)
+        drained (order .«record_while_disarmed») (order .succeed) (drains order keep) e (drainOf order keep) (asNext (order .next) keep) (drain real (order .limit) (order .«record_while_disarmed») (order .armed) (Life.begin real d (order .succeed) (asNext (order .next) keep))) refl
+        (ap (λ (x : Call real). Life.call real x d) (drain-called order keep))
+        (drain-logs real real-lawful d (order .limit) (order .«record_while_disarmed») (order .armed) (order .succeed) (asNext (order .next) keep) (ap (λ (w : Writer real). w .writable) (devices-agree c image script output p .writer) ∙ on)
         (marks-in-lives real real-lawful (logOf c image) (lifeOf c image script))),
     λ off.
-        logs-none (drains limit whileDisarmed armed succeed next keep) e
-        (ap (λ (x : Call real). Life.history real (Life.call real x d)) (drain-called limit whileDisarmed armed succeed next keep)
+        logs-none (drains order keep) e
+        (ap (λ (x : Call real). Life.history real (Life.call real x d)) (drain-called order keep)
         ∙ ap (λ (l : List (ℕ × FlightRecord)). d .past ++ l ∷ [])
         (ap (λ (l : List (ℕ × FlightRecord)). d .now ++ l)
-        (unwritable-logs-nothing real d limit whileDisarmed armed succeed (asNext next keep) (ap (λ (w : Writer real). w .writable) (devices-agree c image script output p .writer) ∙ off))
+        (unwritable-logs-nothing real d (order .limit) (order .«record_while_disarmed») (order .armed) (order .succeed) (asNext (order .next) keep) (ap (λ (w : Writer real). w .writable) (devices-agree c image script output p .writer) ∙ off))
         ∙ append-nil (d .now))),
   )
   logged-by (writes succeed next keep) e =

@@ -31,6 +31,7 @@ use Rattle.log_writer.specs.Calls.{drainTold, writeTold, drained, afterDrain, w
 use Rattle.log_writer.specs.WellFormed.{OnLog}
 use Rattle.log_writer.specs.declared.Pass.{Pass}
 use Rattle.log_writer.specs.declared.WriteAnswer.{WriteAnswer}
+use Rattle.log_writer.specs.declared.DrainOrder.{DrainOrder}
 use Rattle.log_writer.specs.declared.NextProgram.{NextProgram}
 use Rattle.log_writer.proofs.Checks.{passed-log}
 use Rattle.log_laws.proofs.OnlyLog.{only-same, only-then, has-room, drain-only-log, write-only-log}
@@ -80,10 +81,10 @@ one-a-page capacity = length-replicate {A = ℕ} (capacity / 256) 0
 -- ---- one operation
 
 -- a drain is called with the script's numbers
-pub drain-called : (limit : ℕ) (whileDisarmed armed : Bool) (succeed : ℕ) (next : NextProgram) (keep : List ℕ)
-    → drainOf limit whileDisarmed armed succeed next keep ≡ Life.drains limit whileDisarmed armed succeed (asNext next keep)
-drain-called limit whileDisarmed armed succeed next keep =
-    ap₂ (λ (l s : ℕ). Life.drains l whileDisarmed armed s (asNext next keep)) (omega arith) (omega arith)
+pub drain-called : (order : DrainOrder) (keep : List ℕ)
+    → drainOf order keep ≡ Life.drains (order .limit) (order .«record_while_disarmed») (order .armed) (order .succeed) (asNext (order .next) keep)
+drain-called order keep =
+    ap₂ (λ (l s : ℕ). Life.drains l (order .«record_while_disarmed») (order .armed) s (asNext (order .next) keep)) (omega arith) (omega arith)
 
 module _ (capacity : ℕ) (b : Bench) (image : List ℕ) (f : Fine capacity b image) (past : List (List (ℕ × FlightRecord))) (now : List (ℕ × FlightRecord)) where
   abbrev pages : ℕ
@@ -120,18 +121,17 @@ module _ (capacity : ℕ) (b : Bench) (image : List ℕ) (f : Fine capacity b im
           let h = offer-appends (b .queue) r (f .sound .queue) .full (omega (arith, held, ltb-false)) in
           record { past = past; now = now; same = ap (λ (q : RecordQueue). deviceOf pages (bench (b .writer) q) image past now) (sym (h .1)) }
 
-  drain-goes : (limit : ℕ) (whileDisarmed armed : Bool) (succeed : ℕ) (next : NextProgram) (keep : List ℕ) → length keep ≡ 256
-      → Goes (drains limit whileDisarmed armed succeed next keep)
+  drain-goes : (order : DrainOrder) (keep : List ℕ) → length keep ≡ 256 → Goes (drains order keep)
   unfolding played imageAfter drained afterDrain
-  drain-goes limit whileDisarmed armed succeed next keep k =
+  drain-goes order keep k =
       let on : OnLog capacity (length image) (length keep) = record { valid = f .valid; whole = f .whole; kept = k } in
-      let h = drain-is pages next keep whileDisarmed armed limit (begin (b .writer) (b .queue) succeed) image [] none space
+      let h = drain-is pages order keep (begin (b .writer) (b .queue) (order .succeed)) image [] none space
       (record { sound = f .sound .writer; held = f .sound .queue }) refl in
       record {
         past = past;
         now = now ++ h .logged;
         same =
-            ap (λ (x : Call real). Life.call real x before) (drain-called limit whileDisarmed armed succeed next keep)
+            ap (λ (x : Call real). Life.call real x before) (drain-called order keep)
             ∙ ap (Life.afterPass real before) (h .same)
             ∙ ap₂ (λ (x : Answer Pass) (m : Answer (List ℕ)). deviceOf pages (draining (drainTold (b .writer) (b .queue) x) .bench) (leaves image m) past (now ++ h .logged))
             (sym (passed-log capacity (length image) (length keep) (gives _) on)) (sym (passed-log capacity (length image) (length keep) (gives _) on));
@@ -174,7 +174,7 @@ module _ (capacity : ℕ) (b : Bench) (image : List ℕ) (f : Fine capacity b im
 
   pub goes : (o : Operation) → OfLife o → Writes o → Goes o
   goes (offers r) l w = offer-goes r
-  goes (drains limit whileDisarmed armed succeed next keep) l w = drain-goes limit whileDisarmed armed succeed next keep (w .2)
+  goes (drains order keep) l w = drain-goes order keep (w .2)
   goes (writes succeed next keep) l w = write-goes succeed next keep (w .1)
   goes powers l w = power-goes
   goes (recovers page flight writable) l w = absurd l
@@ -187,8 +187,7 @@ pub only-log : (capacity : ℕ) (o : Operation) (b : Bench) (image : List ℕ) �
     → OnlyAt logStart (pagesIn capacity * 256) image (imageAfter capacity o b image)
 unfolding imageAfter
 only-log c (offers r) b image s = only-same logStart (pagesIn c * 256) image
-only-log c (drains limit whileDisarmed armed succeed next keep) b image s =
-    drain-only-log limit c image keep next whileDisarmed (b .writer) (b .queue) succeed (s .writer, s .queue)
+only-log c (drains order keep) b image s = drain-only-log order c image keep (b .writer) (b .queue) (s .writer, s .queue)
 only-log c (writes succeed next keep) b image s = write-only-log c image keep next (b .writer) (b .queue) succeed (s .writer, s .queue)
 only-log c powers b image s = only-same logStart (pagesIn c * 256) image
 only-log c (recovers page flight writable) b image s = only-same logStart (pagesIn c * 256) image

@@ -15,7 +15,7 @@ use Rattle.script.specs.Script.{Operation, offers, drains, writes, powers, reco
 -- an operation whose mask is bytes
 abbrev pub BytesOf : Operation → Type 0
 BytesOf (offers r) = Unit {0}
-BytesOf (drains limit whileDisarmed armed succeed next keep) = Bytes keep
+BytesOf (drains order keep) = Bytes keep
 BytesOf (writes succeed next keep) = Bytes keep
 BytesOf powers = Unit {0}
 BytesOf (recovers page flight writable) = Unit {0}
@@ -70,9 +70,9 @@ row-bytes : (o : Operation) → BytesOf o → Part (rowOf o)
 unfolding rowOf
 row-bytes (offers r) h =
     row-part 0 0 0 0 0 0 0 (recordBytes r) (omega arith) (omega arith) (omega arith) (omega arith) (omega arith) (record { bytes = record-bytes r })
-row-bytes (drains limit whileDisarmed armed succeed next keep) h =
-    row-part 1 (nextByte next) (flagByte armed) (flagByte whileDisarmed) 0 limit succeed keep (omega arith) (next-small next) (flag-small armed)
-    (flag-small whileDisarmed) (omega arith) (record { bytes = h })
+row-bytes (drains order keep) h =
+    row-part 1 _ _ _ 0 (order .limit) (order .succeed) keep (omega arith) (next-small (order .next)) (flag-small (order .armed))
+    (flag-small (order .«record_while_disarmed»)) (omega arith) (record { bytes = h })
 row-bytes (writes succeed next keep) h =
     row-part 2 (nextByte next) 0 0 0 0 succeed keep (omega arith) (next-small next) (omega arith) (omega arith) (omega arith) (record { bytes = h })
 row-bytes powers h = row-part 3 0 0 0 0 0 0 [] (omega arith) (omega arith) (omega arith) (omega arith) (omega arith) none

@@ -42,8 +42,8 @@ module _ (b : MagicBit) where
           (cond z (Life.offers r ∷ []) [] ++ lifeFrom c os (played c (offers r) x image .bench) (imageAfter c (offers r) x image))
       go true k = (w .0, k)
       go false k = k
-  life-spares c (drains limit whileDisarmed armed succeed next keep ∷ os) x image w h =
-      (next-spares next keep (h .0), life-spares c os _ _ (w .1) (h .1))
+  life-spares c (drains order keep ∷ os) x image w h =
+      (next-spares (order .next) keep (h .0), life-spares c os _ _ (w .1) (h .1))
   life-spares c (writes succeed next keep ∷ os) x image w h = (next-spares next keep (h .0), life-spares c os _ _ (w .1) (h .1))
   life-spares c (powers ∷ os) x image w h = (tt, life-spares c os _ _ (w .1) (h .1))
   life-spares c (recovers page flight writable ∷ os) x image w h = life-spares c os _ _ (w .1) (h .1)

@@ -60,8 +60,8 @@ assumed-of c (offers r ∷ os) b image d w n =
         → ((e : Device real) → NoneDecodes rest e → Life.AllAssumed real rest e) → Life.AllAssumed real (cond z (Life.offers r ∷ []) [] ++ rest) d
     go true m h = (w .0, h (Life.call real (Life.offers r) d) m)
     go false m h = h d m
-assumed-of c (drains limit whileDisarmed armed succeed next keep ∷ os) b image d w n =
-    (n .0, assumed-of c os _ _ (Life.call real (drainOf limit whileDisarmed armed succeed next keep) d) (w .1) (n .1))
+assumed-of c (drains order keep ∷ os) b image d w n =
+    (n .0, assumed-of c os _ _ (Life.call real (drainOf order keep) d) (w .1) (n .1))
 assumed-of c (writes succeed next keep ∷ os) b image d w n =
     (n .0, assumed-of c os _ _ (Life.call real (writeOf succeed next keep) d) (w .1) (n .1))
 assumed-of c (powers ∷ os) b image d w n = (tt, assumed-of c os _ _ (Life.call real Life.powers d) (w .1) n)
@@ -268,4 +268,4 @@ five-at-most logged = omega (arith, last-five 0 (omega arith) logged)
 
 pub scripts-call-the-writer : ScriptsCallTheWriter
 unfolding played imageAfter
-scripts-call-the-writer c limit whileDisarmed armed succeed next keep b image = (refl, refl, refl, refl)
+scripts-call-the-writer c order succeed next keep b image = (refl, refl, refl, refl)

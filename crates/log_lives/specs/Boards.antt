@@ -50,7 +50,7 @@ SegmentsOfImage =
 abbrev pub NoPowerOn : List Operation → Type 0
 NoPowerOn [] = Unit {0}
 NoPowerOn (offers r ∷ os) = NoPowerOn os
-NoPowerOn (drains limit whileDisarmed armed succeed next keep ∷ os) = NoPowerOn os
+NoPowerOn (drains order keep ∷ os) = NoPowerOn os
 NoPowerOn (writes succeed next keep ∷ os) = NoPowerOn os
 NoPowerOn (powers ∷ os) = ⊥
 NoPowerOn (recovers page flight writable ∷ os) = NoPowerOn os
@@ -74,8 +74,8 @@ OneTornPage =
 -- a drain or a write_pending left a program unfinished, cut or failed, and this in the page's place
 abbrev pub LeavesUnfinished : Operation → Device real → List ℕ → Type 0
 LeavesUnfinished (offers r) d left = ⊥
-LeavesUnfinished (drains limit whileDisarmed armed succeed next keep) d left =
-    (page : List ℕ) × (unfinishedIn real (drainOf limit whileDisarmed armed succeed next keep) d ≡ some (page, left))
+LeavesUnfinished (drains order keep) d left =
+    (page : List ℕ) × (unfinishedIn real (drainOf order keep) d ≡ some (page, left))
 LeavesUnfinished (writes succeed next keep) d left = (page : List ℕ) × (unfinishedIn real (writeOf succeed next keep) d ≡ some (page, left))
 LeavesUnfinished powers d left = ⊥
 LeavesUnfinished (recovers page flight writable) d left = ⊥

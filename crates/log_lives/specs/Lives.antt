@@ -11,6 +11,8 @@ use Rattle.power.specs.Life as Life
 use Rattle.layout.specs.Layout.{pagesIn}
 use Rattle.log_pages.specs.Store.{real, pagesOf}
 use Rattle.log_views.specs.Views.{asNext}
+use Rattle.log_writer.specs.Pass.{drainOrder}
+use Rattle.log_writer.specs.declared.DrainOrder.{DrainOrder}
 use Rattle.log_writer.specs.declared.NextProgram.{NextProgram}
 use Rattle.log_writer.specs.declared.NextProgram.the-variants.{Busy, Fault, Cut}
 use Rattle.script.specs.Script.{Operation, offers, drains, writes, powers, recovers, resets, flushes, operations}
@@ -21,7 +23,7 @@ use Rattle.rig.specs.declared.Bench.{Bench}
 -- too, as the firmware calls it at the top of each pass: it clears the writer's start time, and calls nothing.
 abbrev pub OfLife : Operation → Type 0
 OfLife (offers r) = Unit {0}
-OfLife (drains limit whileDisarmed armed succeed next keep) = Unit {0}
+OfLife (drains order keep) = Unit {0}
 OfLife (writes succeed next keep) = Unit {0}
 OfLife powers = Unit {0}
 OfLife (recovers page flight writable) = ⊥
@@ -37,8 +39,8 @@ abbrev pub takes : Bench → Bool
 takes b = ltb (b .queue .held) 31
 
 -- a drain and a write_pending of a script as calls
-abbrev pub drainOf : ℕ → Bool → Bool → ℕ → NextProgram → List ℕ → Call real
-drainOf limit whileDisarmed armed succeed next keep = Life.drains limit whileDisarmed armed succeed (asNext next keep)
+abbrev pub drainOf : DrainOrder → List ℕ → Call real
+drainOf order keep = Life.drains (order .limit) (order .«record_while_disarmed») (order .armed) (order .succeed) (asNext (order .next) keep)
 
 abbrev pub writeOf : ℕ → NextProgram → List ℕ → Call real
 writeOf succeed next keep = Life.writes succeed (asNext next keep)
@@ -46,7 +48,7 @@ writeOf succeed next keep = Life.writes succeed (asNext next keep)
 -- the calls that an operation is: an offer that is refused is none
 abbrev pub callsOf : Operation → Bench → List (Call real)
 callsOf (offers r) b = cond (takes b) (Life.offers r ∷ []) []
-callsOf (drains limit whileDisarmed armed succeed next keep) b = drainOf limit whileDisarmed armed succeed next keep ∷ []
+callsOf (drains order keep) b = drainOf order keep ∷ []
 callsOf (writes succeed next keep) b = writeOf succeed next keep ∷ []
 callsOf powers b = Life.powers ∷ []
 callsOf (recovers page flight writable) b = []
@@ -100,7 +102,7 @@ keepOf (Next.cut keep) = keep
 -- the operation that a call is
 abbrev pub operationOf : Call real → Operation
 operationOf (Life.offers r) = offers r
-operationOf (Life.drains limit whileDisarmed armed succeed next) = drains limit whileDisarmed armed succeed (nextOf next) (keepOf next)
+operationOf (Life.drains limit whileDisarmed armed succeed next) = drains (drainOrder limit armed whileDisarmed succeed (nextOf next)) (keepOf next)
 operationOf (Life.writes succeed next) = writes succeed (nextOf next) (keepOf next)
 operationOf Life.powers = powers
 

@@ -10,6 +10,7 @@ use Rattle.power.specs.Pages.{Each}
 use Rattle.blackbox.specs.Record.{flightRecord}
 use Rattle.blackbox.specs.declared.FlightRecord.{FlightRecord}
 use Rattle.log_pages.specs.Spared.{MagicBit, Unprogrammed}
+use Rattle.log_writer.specs.Pass.{drainOrder}
 use Rattle.log_writer.specs.declared.NextProgram.{NextProgram}
 use Rattle.log_writer.specs.declared.NextProgram.the-variants.{Busy, Fault, Cut}
 use Rattle.script.specs.Script.{Operation, offers, drains, writes, powers, recovers, resets, flushes, operations}
@@ -24,7 +25,7 @@ MaskSpares b Cut keep = Unprogrammed b keep
 
 abbrev pub Spares : MagicBit → Operation → Type 0
 Spares b (offers r) = Unit {0}
-Spares b (drains limit whileDisarmed armed succeed next keep) = MaskSpares b next keep
+Spares b (drains order keep) = MaskSpares b (order .next) keep
 Spares b (writes succeed next keep) = MaskSpares b next keep
 Spares b powers = Unit {0}
 Spares b (recovers page flight writable) = Unit {0}
@@ -57,20 +58,20 @@ abbrev morning : List Operation
 morning =
     powers ∷ offers (numbered 1) ∷ offers (numbered 2) ∷ offers (numbered 3) ∷ offers (numbered 4) ∷ offers (numbered 5) ∷ offers (numbered 6)
     ∷ offers (numbered 7) ∷ offers (numbered 8) ∷ offers (numbered 9) ∷ offers (numbered 10) ∷ offers (numbered 11) ∷ offers (numbered 12)
-    ∷ drains 16 false true 9 Busy noMask ∷ drains 16 false false 9 Busy noMask ∷ writes 0 Fault halfKept ∷ writes 1 Busy noMask ∷ []
+    ∷ drains (drainOrder 16 true false 9 Busy) noMask ∷ drains (drainOrder 16 false false 9 Busy) noMask ∷ writes 0 Fault halfKept ∷ writes 1 Busy noMask ∷ []
 
 -- flight 2: ten records are logged; the power goes while their second page is programmed, with one more in the queue
 abbrev noon : List Operation
 noon =
     powers ∷ offers (numbered 13) ∷ offers (numbered 14) ∷ offers (numbered 15) ∷ offers (numbered 16) ∷ offers (numbered 17) ∷ offers (numbered 18)
-    ∷ offers (numbered 19) ∷ offers (numbered 20) ∷ drains 8 false true 9 Busy noMask ∷ offers (numbered 21) ∷ offers (numbered 22)
-    ∷ drains 2 false true 9 Busy noMask ∷ offers (numbered 23) ∷ drains 16 false true 0 Cut halfKept ∷ []
+    ∷ offers (numbered 19) ∷ offers (numbered 20) ∷ drains (drainOrder 8 true false 9 Busy) noMask ∷ offers (numbered 21) ∷ offers (numbered 22)
+    ∷ drains (drainOrder 2 true false 9 Busy) noMask ∷ offers (numbered 23) ∷ drains (drainOrder 16 true false 0 Cut) halfKept ∷ []
 
 -- three records are logged, and the power goes before their page is full; then a flight of five
 abbrev evening : List Operation
 evening =
-    powers ∷ offers (numbered 24) ∷ offers (numbered 25) ∷ offers (numbered 26) ∷ drains 16 false true 9 Busy noMask ∷ powers
-    ∷ offers (numbered 27) ∷ offers (numbered 28) ∷ offers (numbered 29) ∷ offers (numbered 30) ∷ offers (numbered 31) ∷ drains 5 false true 9 Busy noMask
+    powers ∷ offers (numbered 24) ∷ offers (numbered 25) ∷ offers (numbered 26) ∷ drains (drainOrder 16 true false 9 Busy) noMask ∷ powers
+    ∷ offers (numbered 27) ∷ offers (numbered 28) ∷ offers (numbered 29) ∷ offers (numbered 30) ∷ offers (numbered 31) ∷ drains (drainOrder 5 true false 9 Busy) noMask
     ∷ writes 1 Busy noMask ∷ []
 
 abbrev pub benchDay : List Operation

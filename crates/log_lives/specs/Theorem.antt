@@ -29,6 +29,7 @@ use Rattle.records.specs.declared.Scan.{Scan}
 use Rattle.queue.specs.Queue.{recordsHeld}
 use Rattle.log_search.specs.Search.{foundFlight}
 use Rattle.log_writer.specs.Calls.{drained, afterDrain, pageWritten, afterWrite}
+use Rattle.log_writer.specs.declared.DrainOrder.{DrainOrder}
 use Rattle.log_writer.specs.declared.NextProgram.{NextProgram}
 use Rattle.log_pages.specs.Store.{real, pagesOf, asScan, asFound}
 use Rattle.log_views.specs.Views.{asWriter}
@@ -126,11 +127,9 @@ NotWritable =
 -- a drain and a write_pending of a script are those of log_writer's contracts: what they answer, and the image they leave
 abbrev pub ScriptsCallTheWriter : Type 0
 ScriptsCallTheWriter =
-    (capacity limit : ℕ) (whileDisarmed armed : Bool) (succeed : ℕ) (next : NextProgram) (keep : List ℕ) (b : Bench) (image : List ℕ)
-    → (played capacity (drains limit whileDisarmed armed succeed next keep) b image
-    ≡ draining (drained limit capacity image keep next whileDisarmed armed (b .writer) (b .queue) succeed))
-    × (imageAfter capacity (drains limit whileDisarmed armed succeed next keep) b image
-    ≡ afterDrain limit capacity image keep next whileDisarmed (b .writer) (b .queue) succeed)
+    (capacity : ℕ) (order : DrainOrder) (succeed : ℕ) (next : NextProgram) (keep : List ℕ) (b : Bench) (image : List ℕ)
+    → (played capacity (drains order keep) b image ≡ draining (drained order capacity image keep (b .writer) (b .queue)))
+    × (imageAfter capacity (drains order keep) b image ≡ afterDrain order capacity image keep (b .writer) (b .queue))
     × (played capacity (writes succeed next keep) b image ≡ writing (pageWritten capacity image keep next (b .writer) (b .queue) succeed))
     × (imageAfter capacity (writes succeed next keep) b image ≡ afterWrite capacity image keep next (b .writer) succeed)
 
@@ -167,8 +166,8 @@ pub record DrainLogged (whileDisarmed : Bool) (before after : Bench) (was is : L
 -- what one operation does to what was logged, by the bench before and after it: a power-on begins a list, and nothing but a drain adds to one
 abbrev pub LoggedBy : Operation → Bench → Bench → List (List (ℕ × FlightRecord)) → List (List (ℕ × FlightRecord)) → Type 0
 LoggedBy (offers r) before after was is = is ≡ was
-LoggedBy (drains limit whileDisarmed armed succeed next keep) before after was is =
-    (before .writer .writable ≡ true → DrainLogged whileDisarmed before after was is) × (before .writer .writable ≡ false → is ≡ was)
+LoggedBy (drains order keep) before after was is =
+    (before .writer .writable ≡ true → DrainLogged (order .«record_while_disarmed») before after was is) × (before .writer .writable ≡ false → is ≡ was)
 LoggedBy (writes succeed next keep) before after was is = is ≡ was
 LoggedBy powers before after was is = is ≡ was ++ [] ∷ []
 LoggedBy (recovers page flight writable) before after was is = is ≡ was

@@ -22,6 +22,7 @@ use Rattle.log_state.specs.declared.Logged.{Logged}
 use Rattle.log_writer.specs.Pass.{counted, turn, turnImage, turns, turnsImage, droppingIt, dropping, onEmptyQueue, drainPass, drainImage}
 use Rattle.log_writer.specs.WellFormed.{SoundPass}
 use Rattle.log_writer.specs.declared.Pass.{Pass}
+use Rattle.log_writer.specs.declared.DrainOrder.{DrainOrder}
 use Rattle.log_writer.specs.declared.NextProgram.{NextProgram}
 use Rattle.log_writer.proofs.Turns.{still, still-image, another, another-image}
 use Rattle.log_writer.proofs.Keeps.{turn-sound}
@@ -37,88 +38,88 @@ pub record Ends (pages : ℕ) (next : NextProgram) (keep : List ℕ) (t : Theory
   pub unfinished : Option (List ℕ × List ℕ)
   pub same : t ≡ asPass pages next keep p image logged unfinished
 
-module _ (pages : ℕ) (next : NextProgram) (keep : List ℕ) (whileDisarmed : Bool) where
+module _ (pages : ℕ) (order : DrainOrder) (keep : List ℕ) where
   abbrev Reaches : ℕ → Pass → List ℕ → Type 0
   Reaches n p image =
       (l : List (ℕ × FlightRecord)) (u : Option (List ℕ × List ℕ))
-      → Ends pages next keep (Theory.turns real whileDisarmed n (asPass pages next keep p image l u)) (turns pages next whileDisarmed n p)
-      (turnsImage pages next whileDisarmed keep n p image)
+      → Ends pages (order .next) keep (Theory.turns real (order .«record_while_disarmed») n (asPass pages (order .next) keep p image l u)) (turns pages order n p)
+      (turnsImage pages order keep n p image)
 
   turns-is : (n : ℕ) (p : Pass) (image : List ℕ) → logStart + pages * 256 ≤ length image → SoundPass p → p .going ≡ true → Reaches n p image
   unfolding turns turnsImage
   turns-is zero p image space s on l u = record { logged = l; unfinished = u; same = refl }
   turns-is (suc n) p image space s on l u =
-      go (turn-is pages next keep whileDisarmed p image l u space s on) (q .going) refl
-      (λ live. turns-is n q after (omega (arith, turn-only pages next keep p image s space .long)) (turn-sound pages next whileDisarmed p s) live)
+      go (turn-is pages order keep p image l u space s on) (q .going) refl
+      (λ live. turns-is n q after (omega (arith, turn-only pages order keep p image s space .long)) (turn-sound pages order p s) live)
     where
       q : Pass
-      q = turn pages next whileDisarmed p
+      q = turn pages order p
 
       after : List ℕ
-      after = turnImage pages next keep p image
+      after = turnImage pages order keep p image
 
       onwards : Theory.Step real → Theory.Pass real
-      onwards step = Theory.onward real (λ x. Theory.turns real whileDisarmed n x) step
+      onwards step = Theory.onward real (λ x. Theory.turns real (order .«record_while_disarmed») n x) step
 
       tp : Theory.Pass real
-      tp = asPass pages next keep p image l u
+      tp = asPass pages (order .next) keep p image l u
 
       -- the code's turns are the turn and those after it
-      there : {t : Theory.Pass real} → Ends pages next keep t (turns pages next whileDisarmed n q) (turnsImage pages next whileDisarmed keep n q after)
-          → Ends pages next keep t (turns pages next whileDisarmed (suc n) p) (turnsImage pages next whileDisarmed keep (suc n) p image)
+      there : {t : Theory.Pass real} → Ends pages (order .next) keep t (turns pages order n q) (turnsImage pages order keep n q after)
+          → Ends pages (order .next) keep t (turns pages order (suc n) p) (turnsImage pages order keep (suc n) p image)
       there {t} h =
           record {
             logged = h .logged;
             unfinished = h .unfinished;
             same =
-                h .same ∙ ap₂ (λ (x : Pass) (m : List ℕ). asPass pages next keep x m (h .logged) (h .unfinished))
-                (sym (another pages next whileDisarmed keep n p on)) (sym (another-image pages next whileDisarmed keep n p image on));
+                h .same ∙ ap₂ (λ (x : Pass) (m : List ℕ). asPass pages (order .next) keep x m (h .logged) (h .unfinished))
+                (sym (another pages order keep n p on)) (sym (another-image pages order keep n p image on));
           }
 
-      go : (t : Is pages next keep (Theory.turn real whileDisarmed tp) q after) (z : Bool) → q .going ≡ z → (q .going ≡ true → Reaches n q after)
-          → Ends pages next keep (onwards (Theory.turn real whileDisarmed tp)) (turns pages next whileDisarmed (suc n) p)
-          (turnsImage pages next whileDisarmed keep (suc n) p image)
+      go : (t : Is pages (order .next) keep (Theory.turn real (order .«record_while_disarmed») tp) q after) (z : Bool) → q .going ≡ z → (q .going ≡ true → Reaches n q after)
+          → Ends pages (order .next) keep (onwards (Theory.turn real (order .«record_while_disarmed») tp)) (turns pages order (suc n) p)
+          (turnsImage pages order keep (suc n) p image)
       go t true e rest =
           let h = rest e (t .logged) (t .unfinished) in
-          let same = ap onwards (t .same) ∙ ap (λ (z : Bool). onwards (stepped z (asPass pages next keep q after (t .logged) (t .unfinished)))) e in
+          let same = ap onwards (t .same) ∙ ap (λ (z : Bool). onwards (stepped z (asPass pages (order .next) keep q after (t .logged) (t .unfinished)))) e in
           there (record { logged = h .logged; unfinished = h .unfinished; same = same ∙ h .same })
       go t false e rest =
-          let same = ap onwards (t .same) ∙ ap (λ (z : Bool). onwards (stepped z (asPass pages next keep q after (t .logged) (t .unfinished)))) e in
+          let same = ap onwards (t .same) ∙ ap (λ (z : Bool). onwards (stepped z (asPass pages (order .next) keep q after (t .logged) (t .unfinished)))) e in
           there
           (record {
             logged = t .logged;
             unfinished = t .unfinished;
             same =
-                same ∙ ap₂ (λ (x : Pass) (m : List ℕ). asPass pages next keep x m (t .logged) (t .unfinished))
-                (sym (still pages next whileDisarmed keep n q e)) (sym (still-image pages next whileDisarmed keep n q after e));
+                same ∙ ap₂ (λ (x : Pass) (m : List ℕ). asPass pages (order .next) keep x m (t .logged) (t .unfinished))
+                (sym (still pages order keep n q e)) (sym (still-image pages order keep n q after e));
           })
 
   -- ---- the ways of a drain
 
-  module _ (armed : Bool) (limit : ℕ) (p : Pass) (image : List ℕ) (l : List (ℕ × FlightRecord)) (u : Option (List ℕ × List ℕ)) where
+  module _ (p : Pass) (image : List ℕ) (l : List (ℕ × FlightRecord)) (u : Option (List ℕ × List ℕ)) where
     abbrev viewed : Model.Writer real → List FlightRecord → Theory.Pass real
-    viewed w queue = viewedAs (pagesOf pages image) w queue (p .succeed) (asNext next keep) (p .«pages_written») l u (p .cut)
+    viewed w queue = viewedAs (pagesOf pages image) w queue (p .succeed) (asNext (order .next) keep) (p .«pages_written») l u (p .cut)
 
     abbrev view : Theory.Pass real
-    view = asPass pages next keep p image l u
+    view = asPass pages (order .next) keep p image l u
 
     -- not writable: one record is dropped
-    none-dropped : p .queue .held ≡ 0 → asPass pages next keep (dropping p) image l u ≡ Theory.withQueue real (Theory.dropOne real (asQueue (p .queue))) view
+    none-dropped : p .queue .held ≡ 0 → asPass pages (order .next) keep (dropping p) image l u ≡ Theory.withQueue real (Theory.dropOne real (asQueue (p .queue))) view
     unfolding dropping
     none-dropped e =
-        ap (λ (d : Dequeued). asPass pages next keep (droppingIt p d) image l u) (none-leaves (p .queue) e)
+        ap (λ (d : Dequeued). asPass pages (order .next) keep (droppingIt p d) image l u) (none-leaves (p .queue) e)
         ∙ ap (viewed (asWriter (p .writer))) (none-held (p .queue) e)
         ∙ sym (ap (λ (queue : List FlightRecord). viewed (asWriter (p .writer)) (Theory.dropOne real queue)) (none-held (p .queue) e))
 
     one-dropped : (n : ℕ) → p .queue .held ≡ suc n
-        → asPass pages next keep (dropping p) image l u ≡ Theory.withQueue real (Theory.dropOne real (asQueue (p .queue))) view
+        → asPass pages (order .next) keep (dropping p) image l u ≡ Theory.withQueue real (Theory.dropOne real (asQueue (p .queue))) view
     unfolding dropping
     one-dropped n e =
-        ap (λ (d : Dequeued). asPass pages next keep (droppingIt p d) image l u) (one-leaves (p .queue) (λ z. omega arith))
+        ap (λ (d : Dequeued). asPass pages (order .next) keep (droppingIt p d) image l u) (one-leaves (p .queue) (λ z. omega arith))
         ∙ ap (λ (queue : List FlightRecord). viewed (asWriter (p .writer)) (Theory.dropOne real queue)) (sym (one-held (p .queue) n e))
 
     dropped-is : (n : ℕ) → p .queue .held ≡ n
-        → asPass pages next keep (dropping p) image l u ≡ Theory.withQueue real (Theory.dropOne real (asQueue (p .queue))) view
+        → asPass pages (order .next) keep (dropping p) image l u ≡ Theory.withQueue real (Theory.dropOne real (asQueue (p .queue))) view
     dropped-is zero e = none-dropped e
     dropped-is (suc n) e = one-dropped n e
 
@@ -133,7 +134,7 @@ module _ (pages : ℕ) (next : NextProgram) (keep : List ℕ) (whileDisarmed : B
     ended-is s false e = ap (λ (x : Logged). asWriter (x .writer)) (cond-false (p .writer .assembler .recording) _ _ e)
 
     rests-at : SoundWriter (p .writer) → (b c on : Bool) → p .writer .assembler .recording ≡ on
-        → asPass pages next keep (cond b p (cond c p (counted p (p .queue) (ended (p .writer))))) image l u
+        → asPass pages (order .next) keep (cond b p (cond c p (counted p (p .queue) (ended (p .writer))))) image l u
         ≡ cond (Theory.endsFlight real b c on)
         (Theory.withWriter real (Model.withAssembler real (Model.stopped real (asWriter (p .writer) .assembler)) (asWriter (p .writer))) view) view
     unfolding counted
@@ -142,49 +143,49 @@ module _ (pages : ℕ) (next : NextProgram) (keep : List ℕ) (whileDisarmed : B
     rests-at s false false true e = ap (λ (w : Model.Writer real). viewed w (asQueue (p .queue))) (ended-is s true e)
     rests-at s false false false e = ap (λ (w : Model.Writer real). viewed w (asQueue (p .queue))) (ended-is s false e)
 
-    rests-is : SoundWriter (p .writer) → asPass pages next keep (onEmptyQueue whileDisarmed armed p) image l u ≡ Theory.onEmptyQueue real whileDisarmed armed view
+    rests-is : SoundWriter (p .writer) → asPass pages (order .next) keep (onEmptyQueue order p) image l u ≡ Theory.onEmptyQueue real (order .«record_while_disarmed») (order .armed) view
     unfolding onEmptyQueue
-    rests-is s = rests-at s whileDisarmed armed (p .writer .assembler .recording) refl
+    rests-is s = rests-at s (order .«record_while_disarmed») (order .armed) (p .writer .assembler .recording) refl
 
     abbrev theirs : Theory.Pass real
-    theirs = Theory.drain real limit whileDisarmed armed view
+    theirs = Theory.drain real (order .limit) (order .«record_while_disarmed») (order .armed) view
 
     module _ (space : logStart + pages * 256 ≤ length image) (s : SoundPass p) (on : p .going ≡ true) where
       writable-is : (n : ℕ) → p .queue .held ≡ n
-          → Ends pages next keep (Theory.drainWritable real limit whileDisarmed armed (asQueue (p .queue)) view)
-          (cond (eqb (p .queue .held) 0) (onEmptyQueue whileDisarmed armed p) (turns pages next whileDisarmed limit p))
-          (cond (eqb (p .queue .held) 0) image (turnsImage pages next whileDisarmed keep limit p image))
+          → Ends pages (order .next) keep (Theory.drainWritable real (order .limit) (order .«record_while_disarmed») (order .armed) (asQueue (p .queue)) view)
+          (cond (eqb (p .queue .held) 0) (onEmptyQueue order p) (turns pages order (order .limit) p))
+          (cond (eqb (p .queue .held) 0) image (turnsImage pages order keep (order .limit) p image))
       writable-is zero e =
           record {
             logged = l;
             unfinished = u;
             same =
-                ap (λ (queue : List FlightRecord). Theory.drainWritable real limit whileDisarmed armed queue view) (none-held (p .queue) e)
+                ap (λ (queue : List FlightRecord). Theory.drainWritable real (order .limit) (order .«record_while_disarmed») (order .armed) queue view) (none-held (p .queue) e)
                 ∙ sym (rests-is (s .sound))
-                ∙ ap₂ (λ (x : Pass) (m : List ℕ). asPass pages next keep x m l u)
+                ∙ ap₂ (λ (x : Pass) (m : List ℕ). asPass pages (order .next) keep x m l u)
                 (sym (cond-true (eqb (p .queue .held) 0) _ _ (eq-eqb (p .queue .held) 0 e))) (sym (cond-true (eqb (p .queue .held) 0) _ _ (eq-eqb (p .queue .held) 0 e)));
           }
       writable-is (suc n) e =
-          let t = turns-is limit p image space s on l u in
+          let t = turns-is (order .limit) p image space s on l u in
           let away = ne-eqb (p .queue .held) 0 (λ z. omega arith) in
           record {
             logged = t .logged;
             unfinished = t .unfinished;
             same =
-                ap (λ (queue : List FlightRecord). Theory.drainWritable real limit whileDisarmed armed queue view) (one-held (p .queue) n e)
+                ap (λ (queue : List FlightRecord). Theory.drainWritable real (order .limit) (order .«record_while_disarmed») (order .armed) queue view) (one-held (p .queue) n e)
                 ∙ t .same
-                ∙ ap₂ (λ (x : Pass) (m : List ℕ). asPass pages next keep x m (t .logged) (t .unfinished))
+                ∙ ap₂ (λ (x : Pass) (m : List ℕ). asPass pages (order .next) keep x m (t .logged) (t .unfinished))
                 (sym (cond-false (eqb (p .queue .held) 0) _ _ away)) (sym (cond-false (eqb (p .queue .held) 0) _ _ away));
           }
 
-      pub drain-is : Ends pages next keep theirs (drainPass pages next whileDisarmed armed limit p) (drainImage pages next whileDisarmed keep limit p image)
+      pub drain-is : Ends pages (order .next) keep theirs (drainPass pages order p) (drainImage pages order keep p image)
       unfolding drainPass drainImage
       drain-is = go (p .writer .writable)
         where
           go : (z : Bool)
-              → Ends pages next keep
-              (cond z (Theory.drainWritable real limit whileDisarmed armed (asQueue (p .queue)) view) (Theory.withQueue real (Theory.dropOne real (asQueue (p .queue))) view))
-              (cond z (cond (eqb (p .queue .held) 0) (onEmptyQueue whileDisarmed armed p) (turns pages next whileDisarmed limit p)) (dropping p))
-              (cond z (cond (eqb (p .queue .held) 0) image (turnsImage pages next whileDisarmed keep limit p image)) image)
+              → Ends pages (order .next) keep
+              (cond z (Theory.drainWritable real (order .limit) (order .«record_while_disarmed») (order .armed) (asQueue (p .queue)) view) (Theory.withQueue real (Theory.dropOne real (asQueue (p .queue))) view))
+              (cond z (cond (eqb (p .queue .held) 0) (onEmptyQueue order p) (turns pages order (order .limit) p)) (dropping p))
+              (cond z (cond (eqb (p .queue .held) 0) image (turnsImage pages order keep (order .limit) p image)) image)
           go true = writable-is (p .queue .held) refl
           go false = record { logged = l; unfinished = u; same = sym (dropped-is (p .queue .held) refl) }

@@ -26,10 +26,11 @@ use Rattle.log_state.specs.WellFormed.{SoundWriter}
 use Rattle.log_state.proofs.Sound.{fetched-sound}
 use Rattle.log_state.specs.declared.LogWriter.{LogWriter}
 use Rattle.log_state.specs.declared.Logged.{Logged}
-use Rattle.log_writer.specs.Pass.{pass, withWriter, halted, put, severed, busyNow, keptBy, logs, counted, takingIn, takingRecord, programming}
+use Rattle.log_writer.specs.Pass.{pass, drainOrder, withWriter, halted, put, severed, busyNow, keptBy, logs, counted, takingIn, takingRecord, programming}
 use Rattle.log_writer.specs.Pass.{turn, programmedPage, turnImage}
 use Rattle.log_writer.specs.WellFormed.{SoundPass}
 use Rattle.log_writer.specs.declared.Pass.{Pass}
+use Rattle.log_writer.specs.declared.DrainOrder.{DrainOrder}
 use Rattle.log_writer.specs.declared.NextProgram.{NextProgram}
 use Rattle.log_writer.specs.declared.NextProgram.the-variants.{Busy, Fault, Cut}
 use Rattle.log_pages.specs.Store.{isArmed, pagesOf}
@@ -51,9 +52,9 @@ stepped true p = Theory.Step.goes-on p
 stepped false p = Theory.Step.ends p
 
 -- whether a record goes to the log
-pub logs-is : (whileDisarmed : Bool) (r : FlightRecord) → logs whileDisarmed r ≡ Theory.logs real whileDisarmed r
+pub logs-is : (order : DrainOrder) (r : FlightRecord) → logs order r ≡ Theory.logs real (order .«record_while_disarmed») r
 unfolding logs isArmed
-logs-is whileDisarmed r = refl
+logs-is order r = refl
 
 module _ (pages : ℕ) (next : NextProgram) (keep : List ℕ) where
   -- a step of the theory is a pass of the code, with an image, and with something logged and something left unfinished
@@ -64,7 +65,7 @@ module _ (pages : ℕ) (next : NextProgram) (keep : List ℕ) where
 
   -- ---- a record is taken, no page being ready or waiting
 
-  module _ (whileDisarmed : Bool) (p : Pass) (image : List ℕ) (l : List (ℕ × FlightRecord)) (u : Option (List ℕ × List ℕ)) where
+  module _ (order : DrainOrder) (p : Pass) (image : List ℕ) (l : List (ℕ × FlightRecord)) (u : Option (List ℕ × List ℕ)) where
     abbrev viewed : Theory.Pass real
     viewed = asPass pages next keep p image l u
 
@@ -73,45 +74,45 @@ module _ (pages : ℕ) (next : NextProgram) (keep : List ℕ) where
     first = oldest (p .queue)
 
     abbrev entry : List (ℕ × FlightRecord)
-    entry = Model.takenRecord real (Theory.logs real whileDisarmed first) (p .writer .assembler .recording) first (asWriter (p .writer))
+    entry = Model.takenRecord real (Theory.logs real (order .«record_while_disarmed») first) (p .writer .assembler .recording) first (asWriter (p .writer))
 
     -- the view with another writer, queue and more logged
     abbrev viewedWith : Model.Writer real → List FlightRecord → List (ℕ × FlightRecord) → Theory.Pass real
     viewedWith w queue more =
         viewedAs (pagesOf pages image) w queue (p .succeed) (asNext next keep) (p .«pages_written») more u (p .cut)
 
-    takes-none : p .queue .held ≡ 0 → Theory.takeNext real whileDisarmed (asQueue (p .queue)) viewed ≡ stepped (takingRecord whileDisarmed p .going) (asPass pages next keep (takingRecord whileDisarmed p) image l u)
+    takes-none : p .queue .held ≡ 0 → Theory.takeNext real (order .«record_while_disarmed») (asQueue (p .queue)) viewed ≡ stepped (takingRecord order p .going) (asPass pages next keep (takingRecord order p) image l u)
     unfolding takingRecord halted
     takes-none e =
-        ap (λ (q : List FlightRecord). Theory.takeNext real whileDisarmed q (viewedWith (asWriter (p .writer)) q l)) (none-held (p .queue) e)
+        ap (λ (q : List FlightRecord). Theory.takeNext real (order .«record_while_disarmed») q (viewedWith (asWriter (p .writer)) q l)) (none-held (p .queue) e)
         ∙ ap (λ (q : List FlightRecord). Theory.Step.ends (viewedWith (asWriter (p .writer)) q l)) (sym (none-held (p .queue) e))
-        ∙ ap (λ (d : Dequeued). stepped (takingIn whileDisarmed p d .going) (asPass pages next keep (takingIn whileDisarmed p d) image l u)) (sym (none-leaves (p .queue) e))
+        ∙ ap (λ (d : Dequeued). stepped (takingIn order p d .going) (asPass pages next keep (takingIn order p d) image l u)) (sym (none-leaves (p .queue) e))
 
     takes-one : (n : ℕ) → p .queue .held ≡ suc n → p .going ≡ true → SoundWriter (p .writer) → p .writer .«has_pending» ≡ false
         → p .writer .assembler .«page_ready» ≡ false
-        → Theory.takeNext real whileDisarmed (asQueue (p .queue)) viewed
-        ≡ stepped (takingRecord whileDisarmed p .going) (asPass pages next keep (takingRecord whileDisarmed p) image (l ++ entry) u)
+        → Theory.takeNext real (order .«record_while_disarmed») (asQueue (p .queue)) viewed
+        ≡ stepped (takingRecord order p .going) (asPass pages next keep (takingRecord order p) image (l ++ entry) u)
     unfolding takingRecord counted
     takes-one n e on s empty free =
-        ap (λ (q : List FlightRecord). Theory.takeNext real whileDisarmed q (viewedWith (asWriter (p .writer)) q l)) (one-held (p .queue) n e)
+        ap (λ (q : List FlightRecord). Theory.takeNext real (order .«record_while_disarmed») q (viewedWith (asWriter (p .writer)) q l)) (one-held (p .queue) n e)
         ∙ ap (λ (w : Model.Writer real). Theory.Step.goes-on (viewedWith w (asQueue (withoutOldest (p .queue))) (l ++ entry))) (sym written-as)
         ∙ ap (λ (z : Bool). stepped z (viewedWith (asWriter (after .writer)) (asQueue (withoutOldest (p .queue))) (l ++ entry))) (sym on)
-        ∙ ap (λ (d : Dequeued). stepped (takingIn whileDisarmed p d .going) (asPass pages next keep (takingIn whileDisarmed p d) image (l ++ entry) u))
+        ∙ ap (λ (d : Dequeued). stepped (takingIn order p d .going) (asPass pages next keep (takingIn order p d) image (l ++ entry) u))
         (sym (one-leaves (p .queue) (λ z. omega arith)))
       where
         after : Logged
-        after = logging (p .writer) first (logs whileDisarmed first)
+        after = logging (p .writer) first (logs order first)
 
-        written-as : asWriter (after .writer) ≡ Model.taken real (Theory.logs real whileDisarmed first) (p .writer .assembler .recording) first (asWriter (p .writer))
+        written-as : asWriter (after .writer) ≡ Model.taken real (Theory.logs real (order .«record_while_disarmed») first) (p .writer .assembler .recording) first (asWriter (p .writer))
         written-as =
-            logged-is first (p .writer) s empty free (logs whileDisarmed first)
-            ∙ ap (λ (z : Bool). Model.taken real z (p .writer .assembler .recording) first (asWriter (p .writer))) (logs-is whileDisarmed first)
+            logged-is first (p .writer) s empty free (logs order first)
+            ∙ ap (λ (z : Bool). Model.taken real z (p .writer .assembler .recording) first (asWriter (p .writer))) (logs-is order first)
 
     pub takes-is : p .going ≡ true → SoundWriter (p .writer) → p .writer .«has_pending» ≡ false → p .writer .assembler .«page_ready» ≡ false
-        → Is (Theory.takeNext real whileDisarmed (asQueue (p .queue)) viewed) (takingRecord whileDisarmed p) image
+        → Is (Theory.takeNext real (order .«record_while_disarmed») (asQueue (p .queue)) viewed) (takingRecord order p) image
     takes-is on s empty free = go (p .queue .held) refl
       where
-        go : (n : ℕ) → p .queue .held ≡ n → Is (Theory.takeNext real whileDisarmed (asQueue (p .queue)) viewed) (takingRecord whileDisarmed p) image
+        go : (n : ℕ) → p .queue .held ≡ n → Is (Theory.takeNext real (order .«record_while_disarmed») (asQueue (p .queue)) viewed) (takingRecord order p) image
         go zero e = record { logged = l; unfinished = u; same = takes-none e }
         go (suc n) e = record { logged = l ++ entry; unfinished = u; same = takes-one n e on s empty free }
 
@@ -121,7 +122,7 @@ pub fresh-is : asWriter fresh ≡ Model.new real
 unfolding fresh Assembler.fresh
 fresh-is = refl
 
-module _ (pages : ℕ) (keep : List ℕ) (whileDisarmed : Bool) (image : List ℕ) (l : List (ℕ × FlightRecord)) (u : Option (List ℕ × List ℕ))
+module _ (pages : ℕ) (keep : List ℕ) (order : DrainOrder) (image : List ℕ) (l : List (ℕ × FlightRecord)) (u : Option (List ℕ × List ℕ))
     (space : logStart + pages * 256 ≤ length image)
     (a : PageAssembler) (page : List ℕ) (at flight : ℕ) (writable boot : Bool) (since : ℕ) (hasSince : Bool) (q : RecordQueue) (count dropped faults : ℕ)
     (gone : Bool) where
@@ -132,14 +133,18 @@ module _ (pages : ℕ) (keep : List ℕ) (whileDisarmed : Bool) (image : List �
   abbrev f : Bool → ℕ → Pass
   f has g = pass (v has) q count dropped faults g true gone
 
+  -- the order with another next program
+  abbrev with-next : NextProgram → DrainOrder
+  with-next next = drainOrder (order .limit) (order .armed) (order .«record_while_disarmed») (order .succeed) next
+
   -- the theory's turn from there, and the code's
   abbrev theirs : Bool → ℕ → NextProgram → Theory.Step real
-  theirs has g next = Theory.afterPut real whileDisarmed (Theory.put real (asWriter (v has) .waiting) (asPass pages next keep (f has g) image l u))
+  theirs has g next = Theory.afterPut real (order .«record_while_disarmed») (Theory.put real (asWriter (v has) .waiting) (asPass pages next keep (f has g) image l u))
 
   abbrev ours : Bool → Bool → ℕ → NextProgram → Pass
   ours has room g next =
-      cond has (cond (busyNow g next) (halted (f has g)) (cond room (programming g next whileDisarmed (f has g)) (halted (f has g))))
-      (takingRecord whileDisarmed (f has g))
+      cond has (cond (busyNow g next) (halted (f has g)) (cond room (programming g (with-next next) (f has g)) (halted (f has g))))
+      (takingRecord (with-next next) (f has g))
 
   abbrev oursImage : Bool → Bool → ℕ → NextProgram → List ℕ
   oursImage has room g next =
@@ -163,24 +168,24 @@ module _ (pages : ℕ) (keep : List ℕ) (whileDisarmed : Bool) (image : List �
 
     -- a program where there is room for it
     programs : ℕ → NextProgram → Theory.Step real
-    programs g next = Theory.afterPut real whileDisarmed (Theory.program real g (asNext next keep) page (asPass pages next keep (f true g) image l u))
+    programs g next = Theory.afterPut real (order .«record_while_disarmed») (Theory.program real g (asNext next keep) page (asPass pages next keep (f true g) image l u))
 
     theirs-is : (g : ℕ) (next : NextProgram) → theirs true g next ≡ programs g next
     unfolding programs
     theirs-is g next =
-        ap (λ (z : Bool). Theory.afterPut real whileDisarmed (cond z (Theory.program real g (asNext next keep) page (asPass pages next keep (f true g) image l u))
+        ap (λ (z : Bool). Theory.afterPut real (order .«record_while_disarmed») (cond z (Theory.program real g (asNext next keep) page (asPass pages next keep (f true g) image l u))
         (Theory.Step.ends (asPass pages next keep (f true g) image l u)))) room-is
 
     writes-is : (next : NextProgram) (left : ℕ)
-        → Is pages next keep (programs (suc left) next) (takingRecord whileDisarmed (put (f true (suc left)) left)) (programmedPage image (v true) [])
+        → Is pages next keep (programs (suc left) next) (takingRecord (with-next next) (put (f true (suc left)) left)) (programmedPage image (v true) [])
     unfolding programs put written
     writes-is next left =
-        let t = takes-is pages next keep whileDisarmed (put (f true (suc left)) left) (programmedPage image (v true) []) l u refl
+        let t = takes-is pages next keep (with-next next) (put (f true (suc left)) left) (programmedPage image (v true) []) l u refl
         (record { rows = s .rows; page = s .page; waits = λ h. absurd (let z : _≡_ {A = ℕ} 0 1 = cc in omega arith) }) refl (s .waits refl .0) in
         record {
           logged = t .logged;
           unfinished = t .unfinished;
-          same = ap (λ (x : Theory.Pass real). Theory.takeNext real whileDisarmed (asQueue q) x) (sym (put-is next left)) ∙ t .same;
+          same = ap (λ (x : Theory.Pass real). Theory.takeNext real (order .«record_while_disarmed») (asQueue q) x) (sym (put-is next left)) ∙ t .same;
         }
 
     fails-is : Is pages Fault keep (programs 0 Fault) (halted (f true 0)) (programmedPage image (v true) keep)
@@ -224,7 +229,7 @@ module _ (pages : ℕ) (keep : List ℕ) (whileDisarmed : Bool) (image : List �
 
       ends : (k : ℕ) (n : NextProgram) → theirs true k n ≡ Theory.Step.ends (asPass pages n keep (f true k) image l u)
       ends k n =
-          ap (λ (z : Bool). Theory.afterPut real whileDisarmed (cond z (Theory.program real k (asNext n keep) page (asPass pages n keep (f true k) image l u))
+          ap (λ (z : Bool). Theory.afterPut real (order .«record_while_disarmed») (cond z (Theory.program real k (asNext n keep) page (asPass pages n keep (f true k) image l u))
           (Theory.Step.ends (asPass pages n keep (f true k) image l u)))) no-room
 
       by : (k : ℕ) (n : NextProgram) → Is pages n keep (theirs true k n) (ours true false k n) (oursImage true false k n)
@@ -235,7 +240,7 @@ module _ (pages : ℕ) (keep : List ℕ) (whileDisarmed : Bool) (image : List �
 
   pub from-fetched : (has : Bool) (g : ℕ) (next : NextProgram) → SoundWriter (v has) → a .«page_ready» ≡ false
       → Is pages next keep (theirs has g next) (ours has (ltb at pages) g next) (oursImage has (ltb at pages) g next)
-  from-fetched false g next s free = takes-is pages next keep whileDisarmed (f false g) image l u refl s refl free
+  from-fetched false g next s free = takes-is pages next keep (with-next next) (f false g) image l u refl s refl free
   from-fetched true g next s free = by (ltb at pages) refl
     where
       by : (z : Bool) → ltb at pages ≡ z → Is pages next keep (theirs true g next) (ours true z g next) (oursImage true z g next)
@@ -256,30 +261,30 @@ fetched-free w s = by (w .«has_pending») refl (w .assembler .«page_ready») r
     by false e true h = refl
     by false e false h = h
 
-module _ (pages : ℕ) (next : NextProgram) (keep : List ℕ) (whileDisarmed : Bool) where
+module _ (pages : ℕ) (order : DrainOrder) (keep : List ℕ) where
   turn-at : (w : LogWriter) (q : RecordQueue) (count dropped faults g : ℕ) (gone : Bool) (image : List ℕ) (l : List (ℕ × FlightRecord))
       (u : Option (List ℕ × List ℕ)) → logStart + pages * 256 ≤ length image → SoundWriter w
-      → Is pages next keep (Theory.turn real whileDisarmed (asPass pages next keep (pass w q count dropped faults g true gone) image l u))
-      (turn pages next whileDisarmed (pass w q count dropped faults g true gone)) (turnImage pages next keep (pass w q count dropped faults g true gone) image)
+      → Is pages (order .next) keep (Theory.turn real (order .«record_while_disarmed») (asPass pages (order .next) keep (pass w q count dropped faults g true gone) image l u))
+      (turn pages order (pass w q count dropped faults g true gone)) (turnImage pages order keep (pass w q count dropped faults g true gone) image)
   unfolding turn turnImage withWriter
   turn-at w q count dropped faults g gone image l u space s =
       let b = fetched w in
-      let t = from-fetched pages keep whileDisarmed image l u space (b .assembler) (b .pending) (b .«next_page») (b .«next_flight») (b .writable)
-      (b .«boot_session_start») (b .«write_back_since_ms») (b .«has_write_back_since») q count dropped faults gone (b .«has_pending») g next
+      let t = from-fetched pages keep order image l u space (b .assembler) (b .pending) (b .«next_page») (b .«next_flight») (b .writable)
+      (b .«boot_session_start») (b .«write_back_since_ms») (b .«has_write_back_since») q count dropped faults gone (b .«has_pending») g (order .next)
       (fetched-sound w s) (fetched-free w s) in
       record {
         logged = t .logged;
         unfinished = t .unfinished;
         same =
-            ap (λ (x : Model.Writer real). Theory.afterPut real whileDisarmed (Theory.put real (x .waiting)
-            (viewedAs (pagesOf pages image) x (asQueue q) g (asNext next keep) count l u gone))) (sym (fetched-is w)) ∙ t .same;
+            ap (λ (x : Model.Writer real). Theory.afterPut real (order .«record_while_disarmed») (Theory.put real (x .waiting)
+            (viewedAs (pagesOf pages image) x (asQueue q) g (asNext (order .next) keep) count l u gone))) (sym (fetched-is w)) ∙ t .same;
       }
 
   pub turn-is : (p : Pass) (image : List ℕ) (l : List (ℕ × FlightRecord)) (u : Option (List ℕ × List ℕ)) → logStart + pages * 256 ≤ length image
       → SoundPass p → p .going ≡ true
-      → Is pages next keep (Theory.turn real whileDisarmed (asPass pages next keep p image l u)) (turn pages next whileDisarmed p) (turnImage pages next keep p image)
+      → Is pages (order .next) keep (Theory.turn real (order .«record_while_disarmed») (asPass pages (order .next) keep p image l u)) (turn pages order p) (turnImage pages order keep p image)
   turn-is p image l u space s on =
       let e = ap (λ (z : Bool). pass (p .writer) (p .queue) (p .«pages_written») (p .«records_dropped») (p .«write_faults») (p .succeed) z (p .cut)) on in
-      subst (λ (x : Pass). Is pages next keep (Theory.turn real whileDisarmed (asPass pages next keep x image l u)) (turn pages next whileDisarmed x) (turnImage pages next keep x image))
+      subst (λ (x : Pass). Is pages (order .next) keep (Theory.turn real (order .«record_while_disarmed») (asPass pages (order .next) keep x image l u)) (turn pages order x) (turnImage pages order keep x image))
       (sym e)
       (turn-at (p .writer) (p .queue) (p .«pages_written») (p .«records_dropped») (p .«write_faults») (p .succeed) (p .cut) image l u space (s .sound))

@@ -28,8 +28,8 @@ powering-sound (refuses number fault) = record { writer = fresh-sound; queue = n
 pub operation-keeps : OperationKeeps
 unfolding played
 operation-keeps c (offers r) b image h = record { writer = h .writer; queue = offer-keeps (b .queue) r (h .queue) }
-operation-keeps c (drains limit whileDisarmed armed succeed next keep) b image h =
-    let k = drain-keeps limit c image keep next whileDisarmed armed (b .writer) (b .queue) succeed (h .writer, h .queue) in
+operation-keeps c (drains order keep) b image h =
+    let k = drain-keeps order c image keep (b .writer) (b .queue) (h .writer, h .queue) in
     record { writer = k .0; queue = k .1 }
 operation-keeps c (writes succeed next keep) b image h =
     let k = write-keeps c image keep next (b .writer) (b .queue) succeed (h .writer, h .queue) in

@@ -27,10 +27,11 @@ use Rattle.log_state.specs.Flush.{flushed}
 use Rattle.log_state.specs.declared.LogWriter.{LogWriter}
 use Rattle.log_state.specs.declared.FlushAnswer.{FlushAnswer}
 use Rattle.log_writer.specs.Calls.{drained, afterDrain, pageWritten, afterWrite}
+use Rattle.log_writer.specs.declared.DrainOrder.{DrainOrder}
 use Rattle.log_writer.specs.declared.NextProgram.{NextProgram}
 use Rattle.log_writer.specs.declared.DrainAnswer.{DrainAnswer}
 use Rattle.log_writer.specs.declared.WriteAnswer.{WriteAnswer}
-use Rattle.script.specs.Script.{Operation, flagByte, flagAt, nextIn, operationIn}
+use Rattle.script.specs.Script.{Operation, flagByte, flagAt, nextIn, orderIn, operationIn}
 use Rattle.script.proofs.Rows.{record-in, says-offer, says-drain, says-write, says-power, says-recover, says-reset, says-flush}
 use Rattle.rig.specs.Rig.{bench, unpowered, playing, offering, draining, writing, powering, flushing, noFaults, played, imageAfter}
 use Rattle.rig.specs.declared.Bench.{Bench}
@@ -123,21 +124,19 @@ module _ (c : ℕ) (row image : List ℕ) (b : Bench) where
     em ∙ ap (λ (p : Operation). imageAfter c p b image) (sym eo),
   )
 
+  pub drain-does : (order : DrainOrder) (image′ : List ℕ) (r : Played) (answer : DrainAnswer) → order ≡ orderIn row → code ≡ 1
+      → answer ≡ drained order c image (part 32 256 row) (b .writer) (b .queue)
+      → image′ ≡ afterDrain order c image (part 32 256 row) (b .writer) (b .queue) → r ≡ draining answer → Does r image′
+  unfolding played imageAfter
+  drain-does order image′ r answer eo e ew em er =
+      does _ r image′ (says-drain row e)
+      (er ∙ ap draining (ew ∙ (λ k. drained (eo k) c image (part 32 256 row) (b .writer) (b .queue))))
+      (em ∙ (λ k. afterDrain (eo k) c image (part 32 256 row) (b .writer) (b .queue)))
+
   module _ (succeed y : ℕ) (next : NextProgram) (image′ : List ℕ) (r : Played) (es : succeed ≡ u32At row 12) (ey : y ≡ getD row 3 0)
       (en : next ≡ nextIn y) where
     upcoming : next ≡ nextIn (getD row 3 0)
     upcoming = en ∙ ap nextIn ey
-
-    pub drain-does : (limit : ℕ) (whileDisarmed armed : Bool) (answer : DrainAnswer) → code ≡ 1 → limit ≡ u32At row 8
-        → whileDisarmed ≡ flagAt row 5 → armed ≡ flagAt row 4
-        → answer ≡ drained limit c image (part 32 256 row) next whileDisarmed armed (b .writer) (b .queue) succeed
-        → image′ ≡ afterDrain limit c image (part 32 256 row) next whileDisarmed (b .writer) (b .queue) succeed → r ≡ draining answer
-        → Does r image′
-    unfolding played imageAfter
-    drain-does limit whileDisarmed armed answer e el ed ea ew em er =
-        does _ r image′ (says-drain row e)
-        (er ∙ ap draining (ew ∙ (λ k. drained (el k) c image (part 32 256 row) (upcoming k) (ed k) (ea k) (b .writer) (b .queue) (es k))))
-        (em ∙ (λ k. afterDrain (el k) c image (part 32 256 row) (upcoming k) (ed k) (b .writer) (b .queue) (es k)))
 
     pub write-does : (answer : WriteAnswer) → code ≡ 2
         → answer ≡ pageWritten c image (part 32 256 row) next (b .writer) (b .queue) succeed

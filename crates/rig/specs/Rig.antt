@@ -82,8 +82,7 @@ noFaults capacity = replicate (capacity / 256) 0
 -- what an operation does to the bench
 unfoldable pub played : ℕ → Operation → Bench → List ℕ → Played
 played capacity (offers r) b image = offering (b .writer) (offered (b .queue) r)
-played capacity (drains limit whileDisarmed armed succeed next keep) b image =
-    draining (drained limit capacity image keep next whileDisarmed armed (b .writer) (b .queue) succeed)
+played capacity (drains order keep) b image = draining (drained order capacity image keep (b .writer) (b .queue))
 played capacity (writes succeed next keep) b image = writing (pageWritten capacity image keep next (b .writer) (b .queue) succeed)
 played capacity powers b image = powering (scanned capacity image (noFaults capacity))
 played capacity (recovers page flight writable) b image = playing (recovered (b .writer) page flight writable) (b .queue) 0 0 0 0
@@ -93,8 +92,7 @@ played capacity (flushes buffered clock) b image = flushing (b .queue) (flushed 
 -- and to the image
 unfoldable pub imageAfter : ℕ → Operation → Bench → List ℕ → List ℕ
 imageAfter capacity (offers r) b image = image
-imageAfter capacity (drains limit whileDisarmed armed succeed next keep) b image =
-    afterDrain limit capacity image keep next whileDisarmed (b .writer) (b .queue) succeed
+imageAfter capacity (drains order keep) b image = afterDrain order capacity image keep (b .writer) (b .queue)
 imageAfter capacity (writes succeed next keep) b image = afterWrite capacity image keep next (b .writer) succeed
 imageAfter capacity powers b image = image
 imageAfter capacity (recovers page flight writable) b image = image

@@ -80,7 +80,7 @@ fn offered_record(row: &[u8]) -> FlightRecord
     read.record
 }
 
-// A drain with the numbers and the mask of a row.
+// A drain with the order and the mask of a row.
 fn drain(bench: Bench, capacity_bytes: u32, image: &mut [u8], row: &[u8]) -> Played
     requires { ⌜ SoundBench bench × (length (now row) ≡ 288) × (getD (now row) 2 0 ≡ 1) ⌝ }
     ensures { λ r. ⌜ r ≡ played «capacity_bytes» (operationIn (now (row .entry))) bench (now (image .entry)) ⌝ }
@@ -88,23 +88,8 @@ fn drain(bench: Bench, capacity_bytes: u32, image: &mut [u8], row: &[u8]) -> Pla
 {
     let writer = bench.writer;
     let queue = bench.queue;
-    let limit = words::u32_at(row, 8);
-    let while_disarmed = script::flag_at(row, 5);
-    let armed = script::flag_at(row, 4);
-    let succeed = words::u32_at(row, 12);
-    let next = script::next_in(words::byte_at(row, 3));
-    let answer = log_writer::drain_up_to(
-        limit,
-        writer,
-        queue,
-        capacity_bytes,
-        image,
-        &row[32..288],
-        succeed,
-        next,
-        armed,
-        while_disarmed,
-    );
+    let order = script::order_in(row);
+    let answer = log_writer::drain(writer, queue, capacity_bytes, image, &row[32..288], order);
     drain_told(answer)
 }
 

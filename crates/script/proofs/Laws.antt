@@ -16,10 +16,11 @@ use Rattle.store.specs.Store.{part}
 use Rattle.blackbox.specs.Record.{recordOf, recordBytes}
 use Rattle.blackbox.proofs.Laying.{length-record}
 use Rattle.blackbox.proofs.RecordTrip.{record-read-back, read-fits, at-lt}
+use Rattle.log_writer.specs.Pass.{drainOrder}
 use Rattle.log_writer.specs.declared.NextProgram.{NextProgram}
 use Rattle.log_writer.specs.declared.NextProgram.the-variants.{Busy, Fault, Cut}
 use Rattle.script.specs.Script.{Operation, offers, drains, writes, powers, recovers, resets, flushes, flagByte, nextByte, row, rowOf}
-use Rattle.script.specs.Script.{flagAt, nextIn, operationIn, isRow, rowAt, rowsIn, eachIsRow, isScript, operationsFrom, operations}
+use Rattle.script.specs.Script.{flagAt, nextIn, orderIn, operationIn, isRow, rowAt, rowsIn, eachIsRow, isScript, operationsFrom, operations}
 use Rattle.script.specs.Script.{scriptOf}
 use Rattle.script.specs.Laws.{Writes, EachWrites, HasScript, RowsFit}
 use Rattle.script.proofs.Rows.{says-offer, says-drain, says-write, says-power, says-recover, says-reset, says-flush}
@@ -62,7 +63,7 @@ next-back Cut = refl
 length-of : (o : Operation) → Writes o → length (rowOf o) ≡ 288
 unfolding rowOf
 length-of (offers r) h = length-row _ _ _ _ _ _ _ (recordBytes r) (omega (arith, length-record r))
-length-of (drains limit whileDisarmed armed succeed next keep) h = length-row _ _ _ _ _ _ _ keep (omega (arith, h .2))
+length-of (drains order keep) h = length-row _ _ _ _ _ _ _ keep (omega (arith, h .2))
 length-of (writes succeed next keep) h = length-row _ _ _ _ _ _ _ keep (omega (arith, h .1))
 length-of powers h = length-row _ _ _ _ _ _ _ [] (omega arith)
 length-of (recovers page flight writable) h = length-row _ _ _ _ _ _ _ [] (omega arith)
@@ -75,12 +76,15 @@ read-back (offers r) h =
     says-offer (rowOf (offers r)) refl
     ∙ ap {B = Operation} (λ (l : List ℕ). offers (recordOf l)) (payload-back 0 0 0 0 0 0 0 (recordBytes r) 48 (length-record r))
     ∙ ap {B = Operation} offers (record-read-back r h)
-read-back (drains limit whileDisarmed armed succeed next keep) h =
-    says-drain (rowOf (drains limit whileDisarmed armed succeed next keep)) refl
-    ∙ (λ k. drains (first-back 1 (nextByte next) (flagByte armed) (flagByte whileDisarmed) 0 limit succeed keep (h .0) k)
-    (flag-back whileDisarmed k) (flag-back armed k)
-    (second-back 1 (nextByte next) (flagByte armed) (flagByte whileDisarmed) 0 limit succeed keep (h .1) k)
-    (next-back next k) (payload-back 1 (nextByte next) (flagByte armed) (flagByte whileDisarmed) 0 limit succeed keep 256 (h .2) k))
+read-back (drains order keep) h =
+    let n = nextByte (order .next) in
+    let a = flagByte (order .armed) in
+    let d = flagByte (order .«record_while_disarmed») in
+    says-drain (rowOf (drains order keep)) refl
+    ∙ (λ k. drains
+    (drainOrder (first-back 1 n a d 0 (order .limit) (order .succeed) keep (h .0) k) (flag-back (order .armed) k)
+    (flag-back (order .«record_while_disarmed») k) (second-back 1 n a d 0 (order .limit) (order .succeed) keep (h .1) k)
+    (next-back (order .next) k)) (payload-back 1 n a d 0 (order .limit) (order .succeed) keep 256 (h .2) k))
 read-back (writes succeed next keep) h =
     says-write (rowOf (writes succeed next keep)) refl
     ∙ (λ k. writes (second-back 2 (nextByte next) 0 0 0 0 succeed keep (h .0) k) (next-back next k)
@@ -207,7 +211,7 @@ row-fits bytes h n =
     offer : Fits (offers (recordOf (part 32 48 bytes)))
     offer = record { fits = read-fits (part 32 48 bytes) (bytes-take 48 (drop 32 bytes) (bytes-drop 32 bytes h)) }
 
-    drain : Fits (drains (u32At bytes 8) (flagAt bytes 5) (flagAt bytes 4) (u32At bytes 12) (nextIn (getD bytes 3 0)) (part 32 256 bytes))
+    drain : Fits (drains (orderIn bytes) (part 32 256 bytes))
     drain = record { fits = (first, second, mask) }
 
     write : Fits (writes (u32At bytes 12) (nextIn (getD bytes 3 0)) (part 32 256 bytes))

@@ -18,10 +18,12 @@ use Rattle.blackbox.specs.Page.{padded}
 use Rattle.blackbox.specs.Record.{recordOf, recordBytes, recordDecoded, recordAnswer}
 use Rattle.blackbox.specs.declared.RecordAnswer.{RecordAnswer}
 use Rattle.blackbox.proofs.Laying.{length-padded, padded-more, padded-twice, stores-follow}
+use Rattle.log_writer.specs.Pass.{drainOrder}
+use Rattle.log_writer.specs.declared.DrainOrder.{DrainOrder}
 use Rattle.log_writer.specs.declared.NextProgram.{NextProgram}
 use Rattle.log_writer.specs.declared.NextProgram.the-variants.{Busy, Fault, Cut}
 use Rattle.script.specs.Script.{Operation, offers, drains, writes, powers, recovers, resets, flushes, flagByte, nextByte, row, rowOf}
-use Rattle.script.specs.Script.{flagAt, nextIn, operationIn, isRow, rowAt, rowsIn, eachIsRow, isScript}
+use Rattle.script.specs.Script.{flagAt, nextIn, orderIn, operationIn, isRow, rowAt, rowsIn, eachIsRow, isScript}
 
 -- ---- a row is laid from its front
 
@@ -80,12 +82,18 @@ module _ (bytes : List ℕ) where
   here : {A : Type 0} (n : ℕ) (x y : A) → code ≡ n → cond (eqb code n) x y ≡ x
   here n x y h = rw (eq-eqb code n h) refl
 
+  pub order-read : (limit succeed b : ℕ) (armed whileDisarmed : Bool) (next : NextProgram) → b ≡ getD bytes 3 0 → next ≡ nextIn b
+      → limit ≡ u32At bytes 8 → armed ≡ flagAt bytes 4 → whileDisarmed ≡ flagAt bytes 5 → succeed ≡ u32At bytes 12
+      → drainOrder limit armed whileDisarmed succeed next ≡ orderIn bytes
+  order-read limit succeed b armed whileDisarmed next eb en el ea ed es =
+      λ k. drainOrder (el k) (ea k) (ed k) (es k) ((en ∙ ap nextIn eb) k)
+
   pub says-offer : code ≡ 0 → operationIn bytes ≡ offers (recordOf (part 32 48 bytes))
   unfolding operationIn
   says-offer e = here 0 _ _ e
 
   pub says-drain : code ≡ 1 → operationIn bytes
-      ≡ drains (u32At bytes 8) (flagAt bytes 5) (flagAt bytes 4) (u32At bytes 12) (nextIn (getD bytes 3 0)) (part 32 256 bytes)
+      ≡ drains (orderIn bytes) (part 32 256 bytes)
   unfolding operationIn
   says-drain e = later 0 _ _ (λ z. omega arith) ∙ here 1 _ _ e
 
@@ -130,15 +138,15 @@ module _ (bytes : List ℕ) where
       is-that (offers (recordOf (part 32 48 bytes))) expected r (says-offer e)
       (ee ∙ ap (row 0 0 0 0 0 0 0) (ep ∙ ap recordBytes (record-in bytes answer n ea))) er
 
-  pub drain-row : (next : NextProgram) (b nb na nd limit succeed : ℕ) (armed whileDisarmed : Bool) (expected : List ℕ) (r : Bool)
-      → code ≡ 1 → b ≡ getD bytes 3 0 → next ≡ nextIn b → nb ≡ nextByte next → armed ≡ flagAt bytes 4 → na ≡ flagByte armed
-      → whileDisarmed ≡ flagAt bytes 5 → nd ≡ flagByte whileDisarmed → limit ≡ u32At bytes 8 → succeed ≡ u32At bytes 12
-      → expected ≡ row 1 nb na nd 0 limit succeed (part 32 256 bytes) → r ≡ sameBytes bytes expected → r ≡ isRow bytes
+  pub drain-row : (order : DrainOrder) (next armed whileDisarmed : ℕ) (expected : List ℕ) (r : Bool) → code ≡ 1 → order ≡ orderIn bytes
+      → next ≡ nextByte (order .next) → armed ≡ flagByte (order .armed) → whileDisarmed ≡ flagByte (order .«record_while_disarmed»)
+      → expected ≡ row 1 next armed whileDisarmed 0 (order .limit) (order .succeed) (part 32 256 bytes)
+      → r ≡ sameBytes bytes expected → r ≡ isRow bytes
   unfolding rowOf
-  drain-row next b nb na nd limit succeed armed whileDisarmed expected r e e0 e1 e2 e3 e4 e5 e6 e7 e8 ee er =
+  drain-row order next armed whileDisarmed expected r e eo en ea ed ee er =
       is-that _ expected r (says-drain e)
-      (ee ∙ (λ k. row 1 ((e2 ∙ ap nextByte (e1 ∙ ap nextIn e0)) k) ((e4 ∙ ap flagByte e3) k) ((e6 ∙ ap flagByte e5) k) 0 (e7 k) (e8 k)
-      (part 32 256 bytes))) er
+      (ee ∙ (λ k. row 1 (en k) (ea k) (ed k) 0 (order .limit) (order .succeed) (part 32 256 bytes))
+      ∙ ap (λ (o : DrainOrder). rowOf (drains o (part 32 256 bytes))) eo) er
 
   pub write-row : (next : NextProgram) (b nb succeed : ℕ) (expected : List ℕ) (r : Bool)
       → code ≡ 2 → b ≡ getD bytes 3 0 → next ≡ nextIn b → nb ≡ nextByte next → succeed ≡ u32At bytes 12

@@ -11,7 +11,7 @@ use Rattle.script.specs.Script.{Operation, offers, drains, writes, power
 -- an operation whose numbers fit their bytes: a record of 48 bytes, a keep mask of 256
 abbrev pub Writes : Operation → Type 0
 Writes (offers r) = Fit r
-Writes (drains limit whileDisarmed armed succeed next keep) = (limit < 2 ^ 32) × (succeed < 2 ^ 32) × (length keep ≡ 256)
+Writes (drains order keep) = (order .limit < 2 ^ 32) × (order .succeed < 2 ^ 32) × (length keep ≡ 256)
 Writes (writes succeed next keep) = (succeed < 2 ^ 32) × (length keep ≡ 256)
 Writes powers = Unit {0}
 Writes (recovers page flight writable) = (page < 2 ^ 32) × (flight < 2 ^ 32)

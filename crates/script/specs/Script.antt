@@ -11,15 +11,17 @@ use Rattle.words.specs.Words.{leBytes, u32At, sameBytes}
 use Rattle.store.specs.Store.{part}
 use Rattle.blackbox.specs.Record.{recordOf, recordBytes}
 use Rattle.blackbox.specs.declared.FlightRecord.{FlightRecord}
+use Rattle.log_writer.specs.Pass.{drainOrder}
+use Rattle.log_writer.specs.declared.DrainOrder.{DrainOrder}
 use Rattle.log_writer.specs.declared.NextProgram.{NextProgram}
 use Rattle.log_writer.specs.declared.NextProgram.the-variants.{Busy, Fault, Cut}
 
--- The operations. Of a life: a record is offered to the queue; drain, with its limit, record_while_disarmed, whether the craft is armed,
--- the programs that succeed, what the next does and the keep mask; write_pending with the last three; and power comes on. For comparing
--- with the Rust: recover with given numbers, reset_after_erase, and flush_write_back with whether something is buffered and the clock.
+-- The operations. Of a life: a record is offered to the queue; drain, with its order and the keep mask; write_pending with the programs
+-- that succeed, what the next does and the keep mask; and power comes on. For comparing with the Rust: recover with given numbers,
+-- reset_after_erase, and flush_write_back with whether something is buffered and the clock.
 pub data Operation : Type 0 where
   offers : FlightRecord → Operation
-  drains : ℕ → Bool → Bool → ℕ → NextProgram → List ℕ → Operation
+  drains : DrainOrder → List ℕ → Operation
   writes : ℕ → NextProgram → List ℕ → Operation
   powers : Operation
   recovers : ℕ → ℕ → Bool → Operation
@@ -52,8 +54,8 @@ row operation next armed whileDisarmed flag first second payload =
 -- the row of an operation; a clock of 64 bits is two numbers, the low one first
 unfoldable pub rowOf : Operation → List ℕ
 rowOf (offers r) = row 0 0 0 0 0 0 0 (recordBytes r)
-rowOf (drains limit whileDisarmed armed succeed next keep) =
-    row 1 (nextByte next) (flagByte armed) (flagByte whileDisarmed) 0 limit succeed keep
+rowOf (drains order keep) =
+    row 1 (nextByte (order .next)) (flagByte (order .armed)) (flagByte (order .«record_while_disarmed»)) 0 (order .limit) (order .succeed) keep
 rowOf (writes succeed next keep) = row 2 (nextByte next) 0 0 0 0 succeed keep
 rowOf powers = row 3 0 0 0 0 0 0 []
 rowOf (recovers page flight writable) = row 4 0 0 0 (flagByte writable) page flight []
@@ -69,6 +71,10 @@ flagAt bytes at = not (eqb (getD bytes at 0) 0)
 abbrev pub nextIn : ℕ → NextProgram
 nextIn code = cond (eqb code 0) Busy (cond (eqb code 1) Fault Cut)
 
+-- the order of a drain
+abbrev pub orderIn : List ℕ → DrainOrder
+orderIn bytes = drainOrder (u32At bytes 8) (flagAt bytes 4) (flagAt bytes 5) (u32At bytes 12) (nextIn (getD bytes 3 0))
+
 -- one of seven, by the operation's byte
 abbrev pub byOperation : {A : Type 0} → ℕ → A → A → A → A → A → A → A → A
 byOperation code a b c d e f g =
@@ -78,7 +84,7 @@ byOperation code a b c d e f g =
 unfoldable pub operationIn : List ℕ → Operation
 operationIn bytes =
     byOperation (getD bytes 2 0) (offers (recordOf (part 32 48 bytes)))
-    (drains (u32At bytes 8) (flagAt bytes 5) (flagAt bytes 4) (u32At bytes 12) (nextIn (getD bytes 3 0)) (part 32 256 bytes))
+    (drains (orderIn bytes) (part 32 256 bytes))
     (writes (u32At bytes 12) (nextIn (getD bytes 3 0)) (part 32 256 bytes))
     powers
     (recovers (u32At bytes 8) (u32At bytes 12) (flagAt bytes 6))

@@ -1,15 +1,16 @@
 // A script says what is done to a log, call by call, in rows of 288 bytes. A row is the bytes of one operation and nothing else: its length
-// stands in it, and its spare bytes are 0. is_script tests any bytes; what a row of a script says is read at its offsets, with flag_at and
-// next_in for its flags and for what the next program does.
+// stands in it, and its spare bytes are 0. is_script tests any bytes; what a row of a script says is read at its offsets, with order_in for
+// a drain's order, and flag_at and next_in for flags and for what the next program does.
 // A caller can rely on it that a script says each of its operations in one way only.
 use blackbox::FlightRecord;
+use log_writer::DrainOrder;
 use log_writer::NextProgram;
 ghost use mathlib.Core.Path.{_≡_};
 ghost use Prim.Native.Nat.{_≤_, _<_};
 ghost use lib.ListN.{length, getD};
 ghost use mathlib.Core.List.{[]};
 ghost use Rattle.words.specs.Words.{sameBytes};
-ghost use Rattle.script.specs.Script.{flagByte, nextByte, row, flagAt, nextIn, isRow, isScript};
+ghost use Rattle.script.specs.Script.{flagByte, nextByte, row, flagAt, nextIn, orderIn, isRow, isScript};
 
 pub const ROW_LEN: usize = 288;
 
@@ -38,6 +39,20 @@ pub fn next_in(code: u8) -> NextProgram
         return NextProgram::Fault;
     }
     NextProgram::Cut
+}
+
+// The order of a row's drain.
+pub fn order_in(bytes: &[u8]) -> DrainOrder
+    ensures { λ r. ⌜ r ≡ orderIn (now (bytes .entry)) ⌝ }
+{
+    let next = next_in(words::byte_at(bytes, 3));
+    DrainOrder {
+        limit: words::u32_at(bytes, 8),
+        armed: flag_at(bytes, 4),
+        record_while_disarmed: flag_at(bytes, 5),
+        succeed: words::u32_at(bytes, 12),
+        next,
+    }
 }
 
 fn next_byte(next: NextProgram) -> u8
@@ -100,19 +115,16 @@ fn is_drain(bytes: &[u8]) -> bool
     requires { ⌜ (length (now bytes) ≡ 288) × (getD (now bytes) 2 0 ≡ 1) ⌝ }
     ensures { λ r. ⌜ r ≡ isRow (now (bytes .entry)) ⌝ }
 {
-    let next = next_byte(next_in(words::byte_at(bytes, 3)));
-    let armed = flag_byte(flag_at(bytes, 4));
-    let while_disarmed = flag_byte(flag_at(bytes, 5));
-    let limit = words::u32_at(bytes, 8);
-    let succeed = words::u32_at(bytes, 12);
+    let order = order_in(bytes);
+    let next = order.next;
     let expected = row_bytes(
         1,
-        next,
-        armed,
-        while_disarmed,
+        next_byte(next),
+        flag_byte(order.armed),
+        flag_byte(order.record_while_disarmed),
         0,
-        limit,
-        succeed,
+        order.limit,
+        order.succeed,
         &bytes[32..288],
     );
     words::same_bytes(bytes, &expected)

@@ -4,32 +4,17 @@ use borrow.Author.Needs.{needs}
 use Rattle.script.proofs.is_drain.Statement.{statement}
 use Rattle.script.proofs.is_drain.Tie as tie
 
-byte-at-requires : tie.Need-byte-at-requires
-byte-at-requires c κs = search needs
-
-next-in-requires : tie.Need-next-in-requires
-next-in-requires c κs = search needs
+order-in-requires : tie.Need-order-in-requires
+order-in-requires c κs = search needs
 
 next-byte-requires : tie.Need-next-byte-requires
 next-byte-requires c κs = search needs
 
-flag-at-requires : tie.Need-flag-at-requires
-flag-at-requires c κs = search needs
-
 flag-byte-requires : tie.Need-flag-byte-requires
 flag-byte-requires c κs = search needs
 
-flag-at-requires-2 : tie.Need-flag-at-requires-2
-flag-at-requires-2 c κs = search needs
-
 flag-byte-requires-2 : tie.Need-flag-byte-requires-2
 flag-byte-requires-2 c κs = search needs
-
-u32-at-requires : tie.Need-u32-at-requires
-u32-at-requires c κs = search needs
-
-u32-at-requires-2 : tie.Need-u32-at-requires-2
-u32-at-requires-2 c κs = search needs
 
 sub-row-bytes : tie.Need-sub-row-bytes
 sub-row-bytes c = search needs
@@ -56,15 +41,10 @@ pub is-drain-spec : {M : Type 1} → statement M
 is-drain-spec =
     tie.close
     (tie.spec
-    byte-at-requires
-    next-in-requires
+    order-in-requires
     next-byte-requires
-    flag-at-requires
     flag-byte-requires
-    flag-at-requires-2
     flag-byte-requires-2
-    u32-at-requires
-    u32-at-requires-2
     sub-row-bytes
     part-row-bytes-start
     part-row-bytes-end
