@@ -1,7 +1,7 @@
-//! Names the nine Rust files by path, so that they are built unchanged, and links the archive of the C exports.
+//! Names the nine Rust files by path, so that they are built unchanged.
 //!
 //! FERROWASP_SRC is the folder that holds the files (default: ../shared/docs/src beside the project's root). Each file's
-//! SHA-256 must be the one in sources.sha256, or the build stops. STIPEFLUTE_LIB is the folder with libstipeflute.a, or `none`.
+//! SHA-256 must be the one in sources.sha256, or the build stops. STIPEFLUTE_LIB is what rust/build.rs takes it for.
 
 #[path = "build/sha256.rs"]
 mod sha256;
@@ -43,7 +43,7 @@ fn main() {
         modules += &format!("#[path = {built:?}]\npub mod {name};\n");
     }
     fs::write(out.join("ferrowasp.rs"), modules).unwrap();
-    link_archive(&root);
+    alone_or_linked();
 }
 
 /// The file's absolute path, once its SHA-256 is the one that is written down.
@@ -72,25 +72,14 @@ fn with_child(file: &Path, name: &str, reached: &str, out: &Path) -> PathBuf {
     copy
 }
 
-fn link_archive(root: &Path) {
+/// rust/ links the archive. With STIPEFLUTE_LIB=none only the Rust's own answers are asked for (the program `answers`): no export is
+/// called, so none has to be there.
+fn alone_or_linked() {
     println!("cargo:rustc-check-cfg=cfg(alone)");
     println!("cargo:rerun-if-env-changed=STIPEFLUTE_LIB");
     if env::var("STIPEFLUTE_LIB").as_deref() == Ok("none") {
-        // Only the Rust's own answers are asked for (the program `answers`): no export is called, so none has to be there.
         println!("cargo:rustc-cfg=alone");
-        return;
     }
-    let folder = match env::var("STIPEFLUTE_LIB") {
-        Ok(folder) => PathBuf::from(folder),
-        Err(_) => root.join("target/archive"),
-    };
-    let archive = folder.join("libstipeflute.a");
-    if !archive.exists() {
-        stop(&format!("{} is missing; oracle/archive builds it", archive.display()));
-    }
-    println!("cargo:rerun-if-changed={}", archive.display());
-    println!("cargo:rustc-link-search=native={}", fs::canonicalize(folder).unwrap().display());
-    println!("cargo:rustc-link-lib=static=stipeflute");
 }
 
 fn stop(why: &str) -> ! {

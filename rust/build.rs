@@ -1,6 +1,6 @@
 //! Finds libstipeflute.a: in the folder that STIPEFLUTE_LIB names, else in target/staticlib of the repository, where `rt staticlib
 //! stipeflute` proves the crate and writes it if it is not there or older than a source. An older one in a folder that was named is used,
-//! with a warning.
+//! with a warning. With STIPEFLUTE_LIB=none nothing is linked, for a program that makes no call.
 
 use std::{
     env, fs,
@@ -14,6 +14,9 @@ fn main() {
     let root = PathBuf::from(env::var_os("CARGO_MANIFEST_DIR").expect("cargo names the folder")).join("..");
     println!("cargo:rerun-if-changed={}", root.join("crates").display());
     let named = env::var_os("STIPEFLUTE_LIB").map(PathBuf::from);
+    if named.as_deref() == Some(Path::new("none")) {
+        return;
+    }
     let folder = named.clone().unwrap_or_else(|| root.join("target").join("staticlib"));
     let archive = folder.join("libstipeflute.a");
     let stale = newest(&root.join("crates")) > changed(&archive);
