@@ -10,7 +10,7 @@ use Rattle.blackbox.specs.Page.{joined}
 use Rattle.log_search.specs.declared.StoredFlight.{StoredFlight}
 use Rattle.log_lines.specs.Lines.{ascii, countLine, flightLine, unsyncedLines, ackText}
 use Rattle.log_lines.specs.Laws.{EachFit, FlightLineFits, CountLineFits, AckTextFits, LinesFit}
-use Rattle.log_lines.proofs.Notation.{decimal-ten}
+use Rattle.digits.proofs.Notation.{decimal-ten}
 use Rattle.log_lines.proofs.Growing.{flight-fits, count-fits, count-short}
 
 pub flight-line-fits : FlightLineFits

@@ -12,11 +12,10 @@ use Rattle.words.specs.Words.{placed}
 use Rattle.blackbox.specs.Page.{padded}
 use Rattle.blackbox.proofs.Laying.{length-padded, padded-more}
 use Rattle.log_search.specs.declared.StoredFlight.{StoredFlight}
-use Rattle.log_lines.specs.Decimal.{digit, decimalOf}
-use Rattle.log_lines.specs.Lines.{ascii, flag, countLine, flightLine, digitsOf, lineOf, grown}
-use Rattle.log_lines.specs.declared.Digits.{Digits}
+use Rattle.digits.specs.Decimal.{digit, decimalOf}
+use Rattle.digits.proofs.Notation.{decimal-small, decimal-short, decimal-ten}
+use Rattle.log_lines.specs.Lines.{ascii, flag, countLine, flightLine, lineOf, grown}
 use Rattle.log_lines.specs.declared.Line.{Line}
-use Rattle.log_lines.proofs.Notation.{decimal-small, decimal-short, decimal-ten}
 
 -- ---- put: the line as it was, or with the bytes behind its text
 
@@ -65,19 +64,6 @@ length-behind p (b ∷ bs) = omega (arith, length-behind (p ++ b) bs, length-app
 pub fielded : (line l1 l2 : Line) (name digits : List ℕ) (n : ℕ) → digits ≡ decimalOf n → l1 ≡ grown line name → l2 ≡ grown l1 digits
     → l2 ≡ grown (grown line name) (decimalOf n)
 fielded line l1 l2 name digits n d e q = q ∙ ap₂ grown e d
-
-module _ (n : ℕ) where
-  -- the digits of a number are the first bytes of their array
-  pub digits-part : (d : Digits) → d ≡ digitsOf (decimalOf n) → take (d .len - 0) (d .text) ≡ decimalOf n
-  unfolding padded
-  digits-part d e =
-      let all : d .len - 0 ≡ length (decimalOf n) = omega (arith, ap (λ (x : Digits). x .len) e) in
-      ap₂ (λ (k : ℕ) (t : List ℕ). take k t) all (ap (λ (x : Digits). x .text) e) ∙ take-at (decimalOf n) _ (length (decimalOf n)) refl
-
-  pub digits-room : n < 2 ^ 32 → (d : Digits) → d ≡ digitsOf (decimalOf n) → d .len ≤ length (d .text)
-  digits-room h d e =
-      let short : length (decimalOf n) ≤ 10 = decimal-ten n h in
-      omega (arith, ap (λ (x : Digits). x .len) e, ap (λ (x : Digits). length (x .text)) e, length-padded 10 0 (decimalOf n) short)
 
 module _ (f : StoredFlight) (id : length (decimalOf (f .«flight_id»)) ≤ 10) (start : length (decimalOf (f .«start_page»)) ≤ 10)
     (pages : length (decimalOf (f .pages)) ≤ 10) where

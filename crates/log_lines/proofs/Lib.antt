@@ -1,5 +1,3 @@
-pub mod Notation
-pub mod Back
 pub mod Growing
 pub mod Listing
 pub mod Acks

@@ -13,8 +13,7 @@ use Rattle.laws.specs.Answers.{Answer, gives, refuses, must}
 use Rattle.words.specs.Words.{placed}
 use Rattle.blackbox.specs.Page.{joined, padded}
 use Rattle.log_search.specs.declared.StoredFlight.{StoredFlight}
-use Rattle.log_lines.specs.Decimal.{decimalOf}
-use Rattle.log_lines.specs.declared.Digits.{Digits}
+use Rattle.digits.specs.Decimal.{decimalOf}
 use Rattle.log_lines.specs.declared.Line.{Line}
 use Rattle.log_lines.specs.declared.Lines.{Lines}
 
@@ -58,9 +57,6 @@ ackText number =
     [])))
 
 -- ---- a text in a fixed array: its length, its bytes, and 0x00 behind them
-
-abbrev pub digitsOf : List ℕ → Digits
-digitsOf bytes = record { len = length bytes; text = padded 10 0 bytes }
 
 abbrev pub lineOf : List ℕ → Line
 lineOf bytes = record { len = length bytes; text = padded 56 0 bytes }

@@ -3,13 +3,13 @@
 // numbers.
 use log_search::StoredFlight;
 ghost use mathlib.Core.Path.{_≡_};
-ghost use Prim.Native.Nat.{_≤_, _%_};
+ghost use Prim.Native.Nat.{_≤_};
 ghost use mathlib.Core.List.{[]};
-ghost use lib.ListN.{length, take, drop};
+ghost use lib.ListN.{length, take};
 ghost use Rattle.laws.specs.Answers.{gives, refuses};
-ghost use Rattle.log_lines.specs.Decimal.{digit, decimalOf};
+ghost use Rattle.digits.specs.Decimal.{decimalOf};
 ghost use Rattle.log_lines.specs.Lines.{ascii, flag, countLine, flightLine, unsyncedLines, unsynced, ackText};
-ghost use Rattle.log_lines.specs.Lines.{digitsOf, lineOf, linesAnswer, grown, lengthened};
+ghost use Rattle.log_lines.specs.Lines.{lineOf, linesAnswer, grown, lengthened};
 
 // Flights that one answer lists.
 pub const MAX_LISTED_FLIGHTS: usize = 8;
@@ -19,12 +19,6 @@ pub const LINE_LEN: usize = 56;
 
 // The count line and eight flight lines.
 pub const LINES_LEN: usize = 472;
-
-// A number's decimal digits.
-pub struct Digits {
-    pub len: usize,
-    pub text: [u8; 10],
-}
 
 // One line, with its line end.
 pub struct Line {
@@ -37,46 +31,6 @@ pub struct Lines {
     pub refused: u8,
     pub len: usize,
     pub text: [u8; 472],
-}
-
-// Digits at the end of ten bytes, from `at` on.
-struct Tail {
-    at: usize,
-    text: [u8; 10],
-}
-
-fn last_digit(n: u32) -> u8
-    ensures { λ r. ⌜ r ≡ digit (n % 10) ⌝ }
-{
-    48 + (n % 10) as u8
-}
-
-// The digits from the last to the first, laid from the end of ten bytes.
-fn digits_back(n: u32) -> Tail
-    ensures { λ r. ⌜ (r .at ≤ 10) × (length (r .text) ≡ 10) × (drop (r .at) (r .text) ≡ decimalOf n) ⌝ }
-{
-    let mut text = [0u8; 10];
-    let mut at = 9;
-    let mut rest = n / 10;
-    text[at] = last_digit(n);
-    while 0 < rest {
-        at -= 1;
-        text[at] = last_digit(rest);
-        rest /= 10;
-    }
-    Tail { at, text }
-}
-
-// A number as Rust prints it: no leading zeros, and "0" for 0.
-pub fn decimal(n: u32) -> Digits
-    ensures { λ r. ⌜ r ≡ digitsOf (decimalOf n) ⌝ }
-{
-    let tail = digits_back(n);
-    let at = tail.at;
-    let back = tail.text;
-    let mut text = [0u8; 10];
-    words::put_bytes(&mut text, 0, &back[at..10]);
-    Digits { len: 10 - at, text }
 }
 
 fn no_line() -> Line
@@ -118,7 +72,7 @@ fn alone(b: &[u8]) -> Line
 fn field(line: Line, name: &[u8], n: u32) -> Line
     ensures { λ r. ⌜ (r ≡ grown (grown line (now (name .entry))) (decimalOf n)) × (length (decimalOf n) ≤ 10) ⌝ }
 {
-    let digits = decimal(n);
+    let digits = digits::decimal(n);
     let len = digits.len;
     let text = digits.text;
     put(put(line, name), &text[0..len])

@@ -35,7 +35,7 @@ fn show_line(line: Line) {
 }
 
 fn show_number(n: u32) {
-    let digits = log_lines::decimal(n);
+    let digits = digits::decimal(n);
     let text = digits.text;
     write_text(&text, digits.len);
     io::write_all(1, b"\n");

@@ -6,6 +6,7 @@ use native.Mathlib.Omega.{arith}
 use lib.ListN.{length, replicate}
 use Rattle.words.specs.Words.{Bytes, leBytes}
 use Rattle.words.proofs.Numbers.{bytes-nil, bytes-cons, bytes-append, bytes-replicate, bytes-le-bytes}
+use Rattle.blackbox.specs.Page.{padded}
 use Rattle.blackbox.specs.Record.{recordBytes}
 use Rattle.blackbox.proofs.RecordBytes.{record-bytes}
 use Rattle.log_writer.specs.declared.NextProgram.{NextProgram}
@@ -43,7 +44,7 @@ zeros n = record { bytes = bytes-replicate n 0 (omega arith) }
 
 row-part : (operation next armed whileDisarmed flag first second : ℕ) (payload : List ℕ) → operation < 256 → next < 256 → armed < 256 → whileDisarmed < 256
     → flag < 256 → Part payload → Part (row operation next armed whileDisarmed flag first second payload)
-unfolding row
+unfolding row padded
 row-part operation next armed whileDisarmed flag first second payload h₁ h₂ h₃ h₄ h₅ p =
     put 32 (omega arith)
     (put 1 (omega arith)

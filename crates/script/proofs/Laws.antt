@@ -6,15 +6,16 @@ use mathlib.Core.List.{List, [], _∷_, _++_}
 use native.Mathlib.Omega.{arith}
 use borrow.Author.Tests.{eq-eqb}
 use lib.Dec.{eqb}
-use lib.ListN.{length, getD, take, drop, replicate, length-append, length-drop, length-replicate}
+use lib.ListN.{length, getD, take, drop, replicate, length-append, length-drop}
 use lib.Seq.{length-take-le, take-at, drop-append-add}
 use Rattle.laws.proofs.Choice.{cond-true, cond-false}
 use Rattle.words.specs.Words.{Bytes, leBytes, leAt, u32At, sameBytes}
 use Rattle.words.proofs.Numbers.{value-le-bytes, bytes-drop, bytes-take}
 use Rattle.words.proofs.Same.{same-refl}
 use Rattle.store.specs.Store.{part}
+use Rattle.blackbox.specs.Page.{padded}
 use Rattle.blackbox.specs.Record.{recordOf, recordBytes}
-use Rattle.blackbox.proofs.Laying.{length-record}
+use Rattle.blackbox.proofs.Laying.{length-padded, length-record}
 use Rattle.blackbox.proofs.RecordTrip.{record-read-back, read-fits, at-lt}
 use Rattle.log_writer.specs.Pass.{drainOrder}
 use Rattle.log_writer.specs.declared.NextProgram.{NextProgram}
@@ -33,9 +34,7 @@ module _ (operation next armed whileDisarmed flag first second : ℕ) (payload :
 
   length-row : length payload ≤ 256 → length it ≡ 288
   unfolding row leBytes
-  length-row h =
-      let left = 256 - length payload in
-      omega (arith, length-append payload (replicate left 0), length-replicate {A = ℕ} left 0)
+  length-row h = omega (arith, length-padded 256 0 payload h)
 
   first-back : first < 2 ^ 32 → u32At it 8 ≡ first
   unfolding row leBytes leAt
@@ -46,7 +45,7 @@ module _ (operation next armed whileDisarmed flag first second : ℕ) (payload :
   second-back h = value-le-bytes 4 second (omega arith)
 
   payload-back : (n : ℕ) → length payload ≡ n → part 32 n it ≡ payload
-  unfolding row leBytes
+  unfolding row leBytes padded
   payload-back n e = take-at payload (replicate (256 - length payload) 0) n e
 
 flag-back : (b : Bool) → not (eqb (flagByte b) 0) ≡ b

@@ -2,13 +2,14 @@
 -- a keep mask; spare bytes are 0. A row is 288 bytes:
 --   0 length (288), 2 operation, 3 what the program after those that succeed does (0 busy, 1 fault, 2 cut), 4 armed,
 --   5 record_while_disarmed, 6 writable or buffered, 8 and 12 two numbers, 32 a record of 48 bytes or a keep mask of 256.
-use Prim.Native.Nat.{ℕ, zero, suc, _+_, _-_, _*_, _/_, _%_, _^_}
+use Prim.Native.Nat.{ℕ, zero, suc, _+_, _*_, _/_, _%_, _^_}
 use mathlib.Core.Bool.{Bool, true, false, cond, not}
 use mathlib.Core.List.{List, [], _∷_, _++_}
 use lib.Dec.{eqb}
 use lib.ListN.{length, getD, replicate}
 use Rattle.words.specs.Words.{leBytes, u32At, sameBytes}
 use Rattle.store.specs.Store.{part}
+use Rattle.blackbox.specs.Page.{padded}
 use Rattle.blackbox.specs.Record.{recordOf, recordBytes}
 use Rattle.blackbox.specs.declared.FlightRecord.{FlightRecord}
 use Rattle.log_writer.specs.Pass.{drainOrder}
@@ -41,15 +42,11 @@ nextByte Busy = 0
 nextByte Fault = 1
 nextByte Cut = 2
 
--- the bytes of a record or a mask, and spare bytes up to the row's end
-abbrev pub filled : List ℕ → List ℕ
-filled payload = payload ++ replicate (256 - length payload) 0
-
--- a row by its parts
+-- a row by its parts: behind the bytes of a record or a mask spare bytes up to the row's end
 unfoldable pub row : ℕ → ℕ → ℕ → ℕ → ℕ → ℕ → ℕ → List ℕ → List ℕ
 row operation next armed whileDisarmed flag first second payload =
     32 ∷ 1 ∷ operation ∷ next ∷ armed ∷ whileDisarmed ∷ flag ∷ 0
-    ∷ (leBytes 4 first ++ (leBytes 4 second ++ (replicate 16 0 ++ filled payload)))
+    ∷ (leBytes 4 first ++ (leBytes 4 second ++ (replicate 16 0 ++ padded 256 0 payload)))
 
 -- the row of an operation; a clock of 64 bits is two numbers, the low one first
 unfoldable pub rowOf : Operation → List ℕ

@@ -1,7 +1,8 @@
 -- `log_lines::field` meets its contract. Assumes nothing.
 use native.Mathlib.Omega.{arith}
-use Rattle.log_lines.proofs.Notation.{decimal-ten}
-use Rattle.log_lines.proofs.Growing.{fielded, digits-part, digits-room}
+use Rattle.digits.proofs.Notation.{decimal-ten}
+use Rattle.digits.proofs.Back.{digits-part, digits-room}
+use Rattle.log_lines.proofs.Growing.{fielded}
 use borrow.Author.Needs.{needs}
 use Rattle.log_lines.proofs.field.Statement.{statement}
 use Rattle.log_lines.proofs.field.Tie as tie

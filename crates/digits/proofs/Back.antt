@@ -1,6 +1,6 @@
 -- Digits laid from the end of ten bytes: what is still to be laid, and the digits laid, are the number's notation. Assumes nothing.
 use Prim.Native.Nat.{ℕ, zero, suc, _-_, _/_, _%_, _^_, _≤_, _<_}
-use mathlib.Core.Path.{_≡_, refl, sym, ap, _∙_}
+use mathlib.Core.Path.{_≡_, refl, sym, ap, ap₂, _∙_}
 use mathlib.Core.Bool.{cond}
 use mathlib.Core.Logic.{⊎-elim}
 use mathlib.Core.List.{List, [], _∷_, _++_, append-assoc}
@@ -8,13 +8,13 @@ use native.Mathlib.Omega.{arith}
 use borrow.Author.Tests.{eq-eqb, ne-eqb}
 use lib.Dec.{eqb}
 use lib.ListN.{length, take, drop, set, replicate, length-append, length-drop, length-set}
-use lib.Seq.{drop-cons, drop-set-lt, getD-set-same, take-all}
+use lib.Seq.{drop-cons, drop-set-lt, getD-set-same, take-all, take-at}
 use Rattle.words.specs.Words.{placed}
 use Rattle.blackbox.specs.Page.{padded}
-use Rattle.blackbox.proofs.Laying.{padded-more}
-use Rattle.log_lines.specs.Decimal.{digit, decimalOf}
-use Rattle.log_lines.specs.Lines.{digitsOf}
-use Rattle.log_lines.proofs.Notation.{below-ten, decimal-small, decimal-more, decimal-ten, decimal-writes}
+use Rattle.blackbox.proofs.Laying.{length-padded, padded-more}
+use Rattle.digits.specs.Decimal.{digit, decimalOf, digitsOf}
+use Rattle.digits.specs.declared.Digits.{Digits}
+use Rattle.digits.proofs.Notation.{below-ten, decimal-small, decimal-more, decimal-ten, decimal-writes}
 
 -- the digits in front of those laid: none once the rest is 0
 unfoldable pub ahead : ℕ → List ℕ
@@ -86,3 +86,16 @@ moved n back text at long h e q =
     q ∙ ap (placed (replicate 10 0) 0) part ∙ padded-more 10 0 [] (decimalOf n) 0 refl (omega arith)
     in
     cc
+
+module _ (n : ℕ) where
+  -- the digits of a number are the first bytes of their array
+  pub digits-part : (d : Digits) → d ≡ digitsOf (decimalOf n) → take (d .len - 0) (d .text) ≡ decimalOf n
+  unfolding padded
+  digits-part d e =
+      let all : d .len - 0 ≡ length (decimalOf n) = omega (arith, ap (λ (x : Digits). x .len) e) in
+      ap₂ (λ (k : ℕ) (t : List ℕ). take k t) all (ap (λ (x : Digits). x .text) e) ∙ take-at (decimalOf n) _ (length (decimalOf n)) refl
+
+  pub digits-room : n < 2 ^ 32 → (d : Digits) → d ≡ digitsOf (decimalOf n) → d .len ≤ length (d .text)
+  digits-room h d e =
+      let short : length (decimalOf n) ≤ 10 = decimal-ten n h in
+      omega (arith, ap (λ (x : Digits). x .len) e, ap (λ (x : Digits). length (x .text)) e, length-padded 10 0 (decimalOf n) short)

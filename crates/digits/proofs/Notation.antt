@@ -9,8 +9,8 @@ use native.Mathlib.Omega.{arith}
 use borrow.Author.Tests.{lt-ltb, le-ltb, ltb-true, ltb-false}
 use lib.Dec.{ltb}
 use lib.ListN.{length, getD, length-append, List·getD-append}
-use Rattle.log_lines.specs.Decimal.{digit, digitsIn, decimalOf}
-use Rattle.log_lines.specs.Laws.{EachDigit, valueFrom, Writes, DecimalWrites, DecimalAlone, DecimalShort}
+use Rattle.digits.specs.Decimal.{digit, digitsIn, decimalOf}
+use Rattle.digits.specs.Laws.{EachDigit, valueFrom, Writes, DecimalWrites, DecimalAlone, DecimalShort}
 
 -- ---- one digit, or a tenth and the last digit
 

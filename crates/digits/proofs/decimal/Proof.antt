@@ -1,9 +1,9 @@
--- `log_lines::decimal` meets its contract: the digits laid from the end, moved to the front. Assumes nothing.
+-- `digits::decimal` meets its contract: the digits laid from the end, moved to the front. Assumes nothing.
 use native.Mathlib.Omega.{arith}
-use Rattle.log_lines.proofs.Back.{moved}
+use Rattle.digits.proofs.Back.{moved}
 use borrow.Author.Needs.{needs}
-use Rattle.log_lines.proofs.decimal.Statement.{statement}
-use Rattle.log_lines.proofs.decimal.Tie as tie
+use Rattle.digits.proofs.decimal.Statement.{statement}
+use Rattle.digits.proofs.decimal.Tie as tie
 
 digits-back-requires : tie.Need-digits-back-requires
 digits-back-requires c κs = search needs

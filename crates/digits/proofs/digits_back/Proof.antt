@@ -1,15 +1,15 @@
--- `log_lines::digits_back` meets its contract. The loop's invariant: what is ahead of the digits laid, and these, are the number's
+-- `digits::digits_back` meets its contract. The loop's invariant: what is ahead of the digits laid, and these, are the number's
 -- notation. Assumes nothing.
 use Prim.Native.Nat.{_≤_}
 use mathlib.Core.Path.{_≡_, refl}
 use mathlib.Core.List.{_++_}
 use lib.ListN.{length, drop, length-set}
-use Rattle.log_lines.specs.Decimal.{decimalOf}
-use Rattle.log_lines.proofs.Back.{ahead, laid-first, laid-next, laid-all, place-left}
+use Rattle.digits.specs.Decimal.{decimalOf}
+use Rattle.digits.proofs.Back.{ahead, laid-first, laid-next, laid-all, place-left}
 use borrow.Author.Needs.{needs}
 use native.Mathlib.Omega.{arith}
-use Rattle.log_lines.proofs.digits_back.Statement.{statement}
-use Rattle.log_lines.proofs.digits_back.Tie as tie
+use Rattle.digits.proofs.digits_back.Statement.{statement}
+use Rattle.digits.proofs.digits_back.Tie as tie
 
 abbrev Inv-loop : tie.InvT-loop
 Inv-loop n text₀ at₀ rest₀ text at rest = (at ≤ 10) × (rest ≤ n) × (length text ≡ 10) × (ahead rest ++ drop at text ≡ decimalOf n)

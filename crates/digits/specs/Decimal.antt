@@ -3,6 +3,9 @@ use Prim.Native.Nat.{ℕ, zero, suc, _+_, _/_, _%_}
 use mathlib.Core.Bool.{cond}
 use mathlib.Core.List.{List, [], _∷_, _++_}
 use lib.Dec.{ltb}
+use lib.ListN.{length}
+use Rattle.blackbox.specs.Page.{padded}
+use Rattle.digits.specs.declared.Digits.{Digits}
 
 -- the ASCII code of a digit: '0' is 48
 abbrev pub digit : ℕ → ℕ
@@ -17,3 +20,7 @@ digitsIn (suc most) n = cond (ltb n 10) (digit n ∷ []) (digitsIn most (n / 10)
 -- a number in decimal notation: n has at most n + 1 digits
 unfoldable pub decimalOf : ℕ → List ℕ
 decimalOf n = digitsIn (suc n) n
+
+-- the digits in a fixed array: their length, their bytes, and 0x00 behind them
+abbrev pub digitsOf : List ℕ → Digits
+digitsOf bytes = record { len = length bytes; text = padded 10 0 bytes }
