@@ -102,7 +102,7 @@ module _ (c : ℕ) where
 one-edition : (life : List (Call real)) → OffersOf real tt life
 one-edition [] = tt
 one-edition (Life.offers r ∷ life) = (refl, one-edition life)
-one-edition (Life.drains limit whileDisarmed armed succeed next ∷ life) = one-edition life
+one-edition (Life.drains order ∷ life) = one-edition life
 one-edition (Life.writes succeed next ∷ life) = one-edition life
 one-edition (Life.powers ∷ life) = one-edition life
 

@@ -9,7 +9,7 @@ use native.Mathlib.Omega.{arith}
 use borrow.Author.Tests.{lt-ltb}
 use lib.ListN.{length, replicate, length-replicate}
 use Rattle.power.specs.Pages.{Each}
-use Rattle.power.specs.Calls.{Next}
+use Rattle.power.specs.Calls.{Next, orderOf}
 use Rattle.power.specs.Life.{Call, Device}
 use Rattle.power.specs.Life as Life
 use Rattle.power.specs.Moments.{MaskAllowed, NoLarger, Bounded, LifeTo}
@@ -25,14 +25,13 @@ use Rattle.log_views.specs.Views.{asNext}
 use Rattle.script.specs.Script.{Operation, rowsIn, scriptOf}
 use Rattle.script.specs.Laws.{Writes, EachWrites}
 use Rattle.script.proofs.Laws.{has-script}
-use Rattle.log_writer.specs.Pass.{drainOrder}
 use Rattle.rig.specs.Rig.{unpowered, played, imageAfter}
 use Rattle.rig.specs.declared.Bench.{Bench}
 use Rattle.rig.proofs.Laws.{unpowered-sound}
 use Rattle.log_lives.specs.Lives.{OfLife, EachOfLife, takes, callsOf, lifeFrom, deviceBefore, NoneDecodes, nextOf, keepOf, operationOf, operationsOf}
 use Rattle.log_lives.specs.Theorem.{Plays}
 use Rattle.log_lives.specs.Scripts.{IsMask, MaskFits, Fits, AllFit, ScriptOf, EveryLifeHasScript, EndsSafe, EveryLifeSafe, EveryMomentSafe}
-use Rattle.log_lives.proofs.Lives.{deviceOf, Fine, drain-called, goes, fine-after}
+use Rattle.log_lives.proofs.Lives.{deviceOf, Fine, goes, fine-after}
 use Rattle.log_lives.proofs.Scripts.{BytesOf, EachBytesOf, script-bytes}
 use Rattle.log_lives.proofs.Theorem.{begun-is, log-is, demand-3, none-decodes}
 
@@ -49,13 +48,13 @@ mask-long (Next.cut keep) h = omega (arith, h .0)
 each-of-life : (life : List (Call real)) → EachOfLife (operationsOf life)
 each-of-life [] = tt
 each-of-life (Life.offers r ∷ life) = (tt, each-of-life life)
-each-of-life (Life.drains limit whileDisarmed armed succeed next ∷ life) = (tt, each-of-life life)
+each-of-life (Life.drains order ∷ life) = (tt, each-of-life life)
 each-of-life (Life.writes succeed next ∷ life) = (tt, each-of-life life)
 each-of-life (Life.powers ∷ life) = (tt, each-of-life life)
 
 writes-of : (c : Call real) (d : Device real) → Fits c d → Writes (operationOf c)
 writes-of (Life.offers r) d h = h .0
-writes-of (Life.drains limit whileDisarmed armed succeed next) d h = (h .0, h .1, mask-long next (h .2))
+writes-of (Life.drains order) d h = (h .0, h .1, mask-long (order .next) (h .2))
 writes-of (Life.writes succeed next) d h = (h .0, mask-long next (h .1))
 writes-of Life.powers d h = tt
 
@@ -65,7 +64,7 @@ each-writes (x ∷ life) d h = (writes-of x d (h .0), each-writes life (Life.cal
 
 of-life : (x : Call real) → OfLife (operationOf x)
 of-life (Life.offers r) = tt
-of-life (Life.drains limit whileDisarmed armed succeed next) = tt
+of-life (Life.drains order) = tt
 of-life (Life.writes succeed next) = tt
 of-life Life.powers = tt
 
@@ -75,9 +74,8 @@ call-back : (c : ℕ) (b : Bench) (image : List ℕ) (past : List (List (ℕ × 
 call-back c b image past now (Life.offers r) f h =
     ap (λ (z : Bool). cond z (Life.offers r ∷ []) []) {x = takes b} {y = true}
     (omega (arith, h .1, holds-at-most-31 (b .queue) (f .sound .queue) .0, lt-ltb))
-call-back c b image past now (Life.drains limit whileDisarmed armed succeed next) f h =
-    ap (λ (y : Call real). y ∷ []) (drain-called (drainOrder limit armed whileDisarmed succeed (nextOf next)) (keepOf next))
-    ∙ ap (λ (n : Next (List ℕ)). Life.drains limit whileDisarmed armed succeed n ∷ []) (next-back next)
+call-back c b image past now (Life.drains order) f h =
+    ap (λ (n : Next (List ℕ)). Life.drains (orderOf (order .limit) (order .whileDisarmed) (order .armed) (order .succeed) n) ∷ []) (next-back (order .next))
 call-back c b image past now (Life.writes succeed next) f h = ap (λ (n : Next (List ℕ)). Life.writes succeed n ∷ []) (next-back next)
 call-back c b image past now Life.powers f h = refl
 
@@ -102,7 +100,7 @@ mask-bytes (Next.cut keep) h = λ i. omega (arith, h .1 i)
 
 bytes-of : (x : Call real) (d : Device real) → Fits x d → BytesOf (operationOf x)
 bytes-of (Life.offers r) d h = tt
-bytes-of (Life.drains limit whileDisarmed armed succeed next) d h = mask-bytes next (h .2)
+bytes-of (Life.drains order) d h = mask-bytes (order .next) (h .2)
 bytes-of (Life.writes succeed next) d h = mask-bytes next (h .1)
 bytes-of Life.powers d h = tt
 
@@ -172,13 +170,13 @@ of-mask (Next.cut keep) h = h
 
 bounded : (x : Call real) (d : Device real) → Fits x d → Bounded real IsMask (2 ^ 32 - 1) x
 bounded (Life.offers r) d h = tt
-bounded (Life.drains limit whileDisarmed armed succeed next) d h = (omega (arith, h .0), omega (arith, h .1), mask-of next (h .2))
+bounded (Life.drains order) d h = (omega (arith, h .0), omega (arith, h .1), mask-of (order .next) (h .2))
 bounded (Life.writes succeed next) d h = (omega (arith, h .0), mask-of next (h .1))
 bounded Life.powers d h = tt
 
 one-fits : (x : Call real) (d : Device real) → NoLarger real IsMask (2 ^ 32 - 1) x → Fits x d
 one-fits (Life.offers r) d h = absurd h
-one-fits (Life.drains limit whileDisarmed armed succeed next) d h = (omega (arith, h .0), omega (arith, h .1), of-mask next (h .2))
+one-fits (Life.drains order) d h = (omega (arith, h .0), omega (arith, h .1), of-mask (order .next) (h .2))
 one-fits (Life.writes succeed next) d h = (omega (arith, h .0), of-mask next (h .1))
 one-fits Life.powers d h = absurd h
 

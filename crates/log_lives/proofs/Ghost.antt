@@ -19,13 +19,12 @@ use Rattle.blackbox.specs.declared.FlightRecord.{FlightRecord}
 use Rattle.queue.specs.Queue.{recordsHeld}
 use Rattle.log_pages.specs.Store.{real}
 use Rattle.log_pages.proofs.Real.{real-lawful}
-use Rattle.log_views.specs.Views.{asNext}
+use Rattle.log_views.specs.Views.{asNext, asOrder}
 use Rattle.script.specs.Script.{Operation, offers, drains, writes, powers, recovers, resets, flushes, operations}
 use Rattle.rig.specs.Rig.{unpowered}
 use Rattle.rig.specs.declared.Bench.{Bench}
 use Rattle.log_lives.specs.Lives.{takes, drainOf, callsOf, lifeFrom, lifeOf, deviceBefore, deviceAfter}
 use Rattle.log_lives.specs.Theorem.{Plays, logOf, loggedIn, benchAfter, SameDevice, DevicesAgree, DrainLogged, LoggedBy, LoggedStepByStep, NothingLoggedFirst}
-use Rattle.log_lives.proofs.Lives.{drain-called}
 use Rattle.log_lives.proofs.Theorem.{reached, log-is, longer-life}
 
 pub devices-agree : DevicesAgree
@@ -113,16 +112,14 @@ module _ (c : ℕ) (image script output longer output′ : List ℕ) (p : Plays 
       go false = refl
   logged-by (drains order keep) e = (
     λ on.
-        drained (order .«record_while_disarmed») (order .succeed) (drains order keep) e (drainOf order keep) (asNext (order .next) keep) (drain real (order .limit) (order .«record_while_disarmed») (order .armed) (Life.begin real d (order .succeed) (asNext (order .next) keep))) refl
-        (ap (λ (x : Call real). Life.call real x d) (drain-called order keep))
-        (drain-logs real real-lawful d (order .limit) (order .«record_while_disarmed») (order .armed) (order .succeed) (asNext (order .next) keep) (ap (λ (w : Writer real). w .writable) (devices-agree c image script output p .writer) ∙ on)
+        drained (order .«record_while_disarmed») (order .succeed) (drains order keep) e (drainOf order keep) (asNext (order .next) keep) _ refl refl
+        (drain-logs real real-lawful d (asOrder order keep) (ap (λ (w : Writer real). w .writable) (devices-agree c image script output p .writer) ∙ on)
         (marks-in-lives real real-lawful (logOf c image) (lifeOf c image script))),
     λ off.
         logs-none (drains order keep) e
-        (ap (λ (x : Call real). Life.history real (Life.call real x d)) (drain-called order keep)
-        ∙ ap (λ (l : List (ℕ × FlightRecord)). d .past ++ l ∷ [])
+        (ap (λ (l : List (ℕ × FlightRecord)). d .past ++ l ∷ [])
         (ap (λ (l : List (ℕ × FlightRecord)). d .now ++ l)
-        (unwritable-logs-nothing real d (order .limit) (order .«record_while_disarmed») (order .armed) (order .succeed) (asNext (order .next) keep) (ap (λ (w : Writer real). w .writable) (devices-agree c image script output p .writer) ∙ off))
+        (unwritable-logs-nothing real d (asOrder order keep) (ap (λ (w : Writer real). w .writable) (devices-agree c image script output p .writer) ∙ off))
         ∙ append-nil (d .now))),
   )
   logged-by (writes succeed next keep) e =

@@ -80,12 +80,6 @@ one-a-page capacity = length-replicate {A = ℕ} (capacity / 256) 0
 
 -- ---- one operation
 
--- a drain is called with the script's numbers
-pub drain-called : (order : DrainOrder) (keep : List ℕ)
-    → drainOf order keep ≡ Life.drains (order .limit) (order .«record_while_disarmed») (order .armed) (order .succeed) (asNext (order .next) keep)
-drain-called order keep =
-    ap₂ (λ (l s : ℕ). Life.drains l (order .«record_while_disarmed») (order .armed) s (asNext (order .next) keep)) (omega arith) (omega arith)
-
 module _ (capacity : ℕ) (b : Bench) (image : List ℕ) (f : Fine capacity b image) (past : List (List (ℕ × FlightRecord))) (now : List (ℕ × FlightRecord)) where
   abbrev pages : ℕ
   pages = pagesIn capacity
@@ -131,8 +125,7 @@ module _ (capacity : ℕ) (b : Bench) (image : List ℕ) (f : Fine capacity b im
         past = past;
         now = now ++ h .logged;
         same =
-            ap (λ (x : Call real). Life.call real x before) (drain-called order keep)
-            ∙ ap (Life.afterPass real before) (h .same)
+            ap (Life.afterPass real before) (h .same)
             ∙ ap₂ (λ (x : Answer Pass) (m : Answer (List ℕ)). deviceOf pages (draining (drainTold (b .writer) (b .queue) x) .bench) (leaves image m) past (now ++ h .logged))
             (sym (passed-log capacity (length image) (length keep) (gives _) on)) (sym (passed-log capacity (length image) (length keep) (gives _) on));
       }

@@ -210,8 +210,8 @@ demand-3 = safe
 pub none-decodes : (life : List (Call real)) (d : Device real) → Life.AllAssumed real life d → NoneDecodes life d
 none-decodes [] d a = tt
 none-decodes (Life.offers r ∷ life) d a = none-decodes life (Life.call real (Life.offers r) d) (a .1)
-none-decodes (Life.drains limit whileDisarmed armed succeed next ∷ life) d a =
-    (a .0, none-decodes life (Life.call real (Life.drains limit whileDisarmed armed succeed next) d) (a .1))
+none-decodes (Life.drains order ∷ life) d a =
+    (a .0, none-decodes life (Life.call real (Life.drains order) d) (a .1))
 none-decodes (Life.writes succeed next ∷ life) d a = (a .0, none-decodes life (Life.call real (Life.writes succeed next) d) (a .1))
 none-decodes (Life.powers ∷ life) d a = none-decodes life (Life.call real Life.powers d) (a .1)
 

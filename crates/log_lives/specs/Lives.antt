@@ -10,7 +10,7 @@ use Rattle.power.specs.Life.{Call, Device}
 use Rattle.power.specs.Life as Life
 use Rattle.layout.specs.Layout.{pagesIn}
 use Rattle.log_pages.specs.Store.{real, pagesOf}
-use Rattle.log_views.specs.Views.{asNext}
+use Rattle.log_views.specs.Views.{asNext, asOrder}
 use Rattle.log_writer.specs.Pass.{drainOrder}
 use Rattle.log_writer.specs.declared.DrainOrder.{DrainOrder}
 use Rattle.log_writer.specs.declared.NextProgram.{NextProgram}
@@ -40,7 +40,7 @@ takes b = ltb (b .queue .held) 31
 
 -- a drain and a write_pending of a script as calls
 abbrev pub drainOf : DrainOrder → List ℕ → Call real
-drainOf order keep = Life.drains (order .limit) (order .«record_while_disarmed») (order .armed) (order .succeed) (asNext (order .next) keep)
+drainOf order keep = Life.drains (asOrder order keep)
 
 abbrev pub writeOf : ℕ → NextProgram → List ℕ → Call real
 writeOf succeed next keep = Life.writes succeed (asNext next keep)
@@ -80,9 +80,7 @@ deviceAfter capacity image script = Life.lives real (lifeOf capacity image scrip
 abbrev pub NoneDecodes : List (Call real) → Device real → Type 0
 NoneDecodes [] d = Unit {0}
 NoneDecodes (Life.offers r ∷ life) d = NoneDecodes life (Life.call real (Life.offers r) d)
-NoneDecodes (Life.drains limit whileDisarmed armed succeed next ∷ life) d =
-    Life.Assumed real (Life.drains limit whileDisarmed armed succeed next) d
-    × NoneDecodes life (Life.call real (Life.drains limit whileDisarmed armed succeed next) d)
+NoneDecodes (Life.drains order ∷ life) d = Life.Assumed real (Life.drains order) d × NoneDecodes life (Life.call real (Life.drains order) d)
 NoneDecodes (Life.writes succeed next ∷ life) d = Life.Assumed real (Life.writes succeed next) d × NoneDecodes life (Life.call real (Life.writes succeed next) d)
 NoneDecodes (Life.powers ∷ life) d = NoneDecodes life (Life.call real Life.powers d)
 
@@ -102,7 +100,8 @@ keepOf (Next.cut keep) = keep
 -- the operation that a call is
 abbrev pub operationOf : Call real → Operation
 operationOf (Life.offers r) = offers r
-operationOf (Life.drains limit whileDisarmed armed succeed next) = drains (drainOrder limit armed whileDisarmed succeed (nextOf next)) (keepOf next)
+operationOf (Life.drains order) =
+    drains (drainOrder (order .limit) (order .armed) (order .whileDisarmed) (order .succeed) (nextOf (order .next))) (keepOf (order .next))
 operationOf (Life.writes succeed next) = writes succeed (nextOf next) (keepOf next)
 operationOf Life.powers = powers
 

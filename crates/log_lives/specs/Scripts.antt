@@ -31,7 +31,7 @@ MaskFits (Next.cut keep) = IsMask keep
 -- a call that a row can say, of a queue that takes it: its numbers fit 32 bits, and no record is offered to a queue that holds 31
 abbrev pub Fits : Call real → Device real → Type 0
 Fits (Life.offers r) d = Fit r × (length (d .queue) < 31)
-Fits (Life.drains limit whileDisarmed armed succeed next) d = (limit < 2 ^ 32) × (succeed < 2 ^ 32) × MaskFits next
+Fits (Life.drains order) d = (order .limit < 2 ^ 32) × (order .succeed < 2 ^ 32) × MaskFits (order .next)
 Fits (Life.writes succeed next) d = (succeed < 2 ^ 32) × MaskFits next
 Fits Life.powers d = Unit {0}
 

@@ -28,7 +28,7 @@ use Rattle.log_writer.proofs.Turns.{still, still-image, another, another-image}
 use Rattle.log_writer.proofs.Keeps.{turn-sound}
 use Rattle.log_laws.proofs.OnlyLog.{turn-only}
 use Rattle.log_pages.specs.Store.{real, pagesOf}
-use Rattle.log_views.specs.Views.{asWriter, asQueue, asNext, asPass}
+use Rattle.log_views.specs.Views.{asWriter, asQueue, asNext, asOrder, asPass}
 use Rattle.log_views.proofs.Steps.{none-held, one-held, stopped-is}
 use Rattle.log_views.proofs.Turns.{viewedAs, Is, stepped, turn-is}
 
@@ -148,11 +148,11 @@ module _ (pages : ℕ) (order : DrainOrder) (keep : List ℕ) where
     rests-is s = rests-at s (order .«record_while_disarmed») (order .armed) (p .writer .assembler .recording) refl
 
     abbrev theirs : Theory.Pass real
-    theirs = Theory.drain real (order .limit) (order .«record_while_disarmed») (order .armed) view
+    theirs = Theory.drain real (asOrder order keep) view
 
     module _ (space : logStart + pages * 256 ≤ length image) (s : SoundPass p) (on : p .going ≡ true) where
       writable-is : (n : ℕ) → p .queue .held ≡ n
-          → Ends pages (order .next) keep (Theory.drainWritable real (order .limit) (order .«record_while_disarmed») (order .armed) (asQueue (p .queue)) view)
+          → Ends pages (order .next) keep (Theory.drainWritable real (asOrder order keep) (asQueue (p .queue)) view)
           (cond (eqb (p .queue .held) 0) (onEmptyQueue order p) (turns pages order (order .limit) p))
           (cond (eqb (p .queue .held) 0) image (turnsImage pages order keep (order .limit) p image))
       writable-is zero e =
@@ -160,7 +160,7 @@ module _ (pages : ℕ) (order : DrainOrder) (keep : List ℕ) where
             logged = l;
             unfinished = u;
             same =
-                ap (λ (queue : List FlightRecord). Theory.drainWritable real (order .limit) (order .«record_while_disarmed») (order .armed) queue view) (none-held (p .queue) e)
+                ap (λ (queue : List FlightRecord). Theory.drainWritable real (asOrder order keep) queue view) (none-held (p .queue) e)
                 ∙ sym (rests-is (s .sound))
                 ∙ ap₂ (λ (x : Pass) (m : List ℕ). asPass pages (order .next) keep x m l u)
                 (sym (cond-true (eqb (p .queue .held) 0) _ _ (eq-eqb (p .queue .held) 0 e))) (sym (cond-true (eqb (p .queue .held) 0) _ _ (eq-eqb (p .queue .held) 0 e)));
@@ -172,7 +172,7 @@ module _ (pages : ℕ) (order : DrainOrder) (keep : List ℕ) where
             logged = t .logged;
             unfinished = t .unfinished;
             same =
-                ap (λ (queue : List FlightRecord). Theory.drainWritable real (order .limit) (order .«record_while_disarmed») (order .armed) queue view) (one-held (p .queue) n e)
+                ap (λ (queue : List FlightRecord). Theory.drainWritable real (asOrder order keep) queue view) (one-held (p .queue) n e)
                 ∙ t .same
                 ∙ ap₂ (λ (x : Pass) (m : List ℕ). asPass pages (order .next) keep x m (t .logged) (t .unfinished))
                 (sym (cond-false (eqb (p .queue .held) 0) _ _ away)) (sym (cond-false (eqb (p .queue .held) 0) _ _ away));
@@ -184,7 +184,7 @@ module _ (pages : ℕ) (order : DrainOrder) (keep : List ℕ) where
         where
           go : (z : Bool)
               → Ends pages (order .next) keep
-              (cond z (Theory.drainWritable real (order .limit) (order .«record_while_disarmed») (order .armed) (asQueue (p .queue)) view) (Theory.withQueue real (Theory.dropOne real (asQueue (p .queue))) view))
+              (cond z (Theory.drainWritable real (asOrder order keep) (asQueue (p .queue)) view) (Theory.withQueue real (Theory.dropOne real (asQueue (p .queue))) view))
               (cond z (cond (eqb (p .queue .held) 0) (onEmptyQueue order p) (turns pages order (order .limit) p)) (dropping p))
               (cond z (cond (eqb (p .queue .held) 0) image (turnsImage pages order keep (order .limit) p image)) image)
           go true = writable-is (p .queue .held) refl

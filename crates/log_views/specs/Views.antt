@@ -13,6 +13,7 @@ use Rattle.queue.specs.Queue.{recordsHeld}
 use Rattle.queue.specs.declared.RecordQueue.{RecordQueue}
 use Rattle.log_state.specs.declared.LogWriter.{LogWriter}
 use Rattle.log_writer.specs.declared.Pass.{Pass}
+use Rattle.log_writer.specs.declared.DrainOrder.{DrainOrder}
 use Rattle.log_writer.specs.declared.NextProgram.{NextProgram}
 use Rattle.log_writer.specs.declared.NextProgram.the-variants.{Busy, Fault, Cut}
 use Rattle.log_pages.specs.Store.{real, pagesOf}
@@ -55,6 +56,10 @@ abbrev pub asNext : NextProgram → List ℕ → Theory.Next (List ℕ)
 asNext Busy keep = Theory.Next.busy
 asNext Fault keep = Theory.Next.fault keep
 asNext Cut keep = Theory.Next.cut keep
+
+abbrev pub asOrder : DrainOrder → List ℕ → Theory.Order (List ℕ)
+asOrder order keep =
+    Theory.orderOf (order .limit) (order .«record_while_disarmed») (order .armed) (order .succeed) (asNext (order .next) keep)
 
 -- a call under way; what it logged and what an unfinished program left are the theory's own
 abbrev pub asPass : ℕ → NextProgram → List ℕ → Pass → List ℕ → List (ℕ × FlightRecord) → Option (List ℕ × List ℕ) → Theory.Pass real

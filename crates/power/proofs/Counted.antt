@@ -9,10 +9,10 @@ use mathlib.Core.List.{List, [], _∷_}
 use native.Mathlib.Omega.{arith}
 use Rattle.power.specs.Pages.{PageStore}
 use Rattle.power.specs.Writer.{Writer, taken, stopped, withAssembler, begun}
-use Rattle.power.specs.Calls.{Next, busy, fault, cut, Pass, Step, goes-on, ends, programIfRoom, putPage, logs, takeOne, takeNext, afterPut, onward}
+use Rattle.power.specs.Calls.{Order, Next, busy, fault, cut, Pass, Step, goes-on, ends, programIfRoom, putPage, logs, takeOne, takeNext, afterPut, onward}
 use Rattle.power.specs.Calls.{turns, withWriter, endsFlight, drainWritable, withQueue, dropOne, drain, fetched, fetchedIfWritable}
 use Rattle.power.specs.Calls.{unasked, endedWith, writeOne, writePending}
-use Rattle.power.specs.Life.{Device, begin}
+use Rattle.power.specs.Life.{ordered, Device, begin}
 use Rattle.power.specs.Reports.{PagesCounted, DrainCounts, WriteCounts, UnwritableLogsNothing, WriteLogsNothing}
 use Rattle.power.proofs.Puts.{Goes, Halts, StepFacts, fetching-alike, room-facts, put-facts, drain-off}
 use Rattle.power.proofs.Passes.{both-ways}
@@ -67,17 +67,17 @@ module _ {Page Record Mask : Type 0} (S : PageStore Page Record Mask) where
   counts-turns wd zero p = counts-none p
   counts-turns wd (suc limit) p = counts-step wd (λ q. turns S wd limit q) (λ q. counts-turns wd limit q) p (putPage S p) (put-facts S p)
 
-  counts-drain : (limit : ℕ) (wd armed : Bool) (p : Pass S) → Counts p (drain S limit wd armed p)
-  counts-drain limit wd armed p =
-      both-ways (Counts p) (p .writer .writable) (drainWritable S limit wd armed (p .queue) p) (withQueue S (dropOne S (p .queue)) p) (go (p .queue))
+  counts-drain : (order : Order Mask) (p : Pass S) → Counts p (drain S order p)
+  counts-drain order p =
+      both-ways (Counts p) (p .writer .writable) (drainWritable S order (p .queue) p) (withQueue S (dropOne S (p .queue)) p) (go (p .queue))
       (record { alive = λ h. refl; gone = λ h. inl h })
     where
-      go : (queue : List Record) → Counts p (drainWritable S limit wd armed queue p)
+      go : (queue : List Record) → Counts p (drainWritable S order queue p)
       go [] =
-          both-ways (Counts p) (endsFlight S wd armed (p .writer .assembler .recording))
+          both-ways (Counts p) (endsFlight S (order .whileDisarmed) (order .armed) (p .writer .assembler .recording))
           (withWriter S (withAssembler S (stopped S (p .writer .assembler)) (p .writer)) p) p (record { alive = λ h. refl; gone = λ h. inl h })
           (counts-none p)
-      go (x ∷ queue) = counts-turns wd limit p
+      go (x ∷ queue) = counts-turns (order .whileDisarmed) (order .limit) p
 
   unasked-none : (g : ℕ) (z : Next Mask) → unasked S g z ≡ 0 → g ≡ 0
   unasked-none zero busy h = refl
@@ -115,7 +115,7 @@ module _ {Page Record Mask : Type 0} (S : PageStore Page Record Mask) where
       record { alive = λ h. k .alive h ∙ ap (λ (n : ℕ). n + (writePending S p) .pagesWritten) (fetched-page (p .writer)); gone = k .gone }
 
   pub drain-counts : DrainCounts S
-  drain-counts d limit wd armed g z = counted d g z (drain S limit wd armed (begin S d g z)) (counts-drain limit wd armed (begin S d g z))
+  drain-counts d order = counted d (order .succeed) (order .next) (drain S order (ordered S d order)) (counts-drain order (ordered S d order))
 
   pub write-counts : WriteCounts S
   write-counts d g z = counted d g z (writePending S (begin S d g z)) (counts-write (begin S d g z))
@@ -131,7 +131,7 @@ module _ {Page Record Mask : Type 0} (S : PageStore Page Record Mask) where
       go (ends q) f = f .logged
 
   pub unwritable-logs-nothing : UnwritableLogsNothing S
-  unwritable-logs-nothing d limit wd armed g z h = ap (λ (p : Pass S). p .logged) (drain-off S limit wd armed (begin S d g z) h)
+  unwritable-logs-nothing d order h = ap (λ (p : Pass S). p .logged) (drain-off S order (ordered S d order) h)
 
   pub write-logs-nothing : WriteLogsNothing S
   write-logs-nothing d g z = one-logs ((fetchedIfWritable S (d .writer)) .waiting) (withWriter S (fetchedIfWritable S (d .writer)) (begin S d g z))

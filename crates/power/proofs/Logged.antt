@@ -9,9 +9,9 @@ use mathlib.Core.List.{List, [], _∷_, _++_, append-assoc, append-nil}
 use Rattle.power.specs.Pages.{PageStore, full}
 use Rattle.power.specs.Lawful.{Lawful}
 use Rattle.power.specs.Writer.{Assembler, Writer, new, taken, takenRecord, stored, finished, laid, pushed, stopped, withAssembler, begun}
-use Rattle.power.specs.Calls.{Pass, Step, goes-on, ends, programIfRoom, putPage, logs, takeOne, takeNext, afterPut, onward, turns, withWriter}
+use Rattle.power.specs.Calls.{Order, Pass, Step, goes-on, ends, programIfRoom, putPage, logs, takeOne, takeNext, afterPut, onward, turns, withWriter}
 use Rattle.power.specs.Calls.{endsFlight, drainWritable, withQueue, dropOne, fetched, fetchedIfWritable, unasked, endedWith, writeOne}
-use Rattle.power.specs.Life.{Device, Call, offers, drains, writes, powers, begin, call, lives, unpowered}
+use Rattle.power.specs.Life.{ordered, Device, Call, offers, drains, writes, powers, begin, call, lives, unpowered}
 use Rattle.power.specs.Reports.{recordsIn, editionIf, recordedAs, logsOne, loggedOnes, markFirst, MarksSettled, LoggedExactly, DrainLogs, MarksInLives}
 use Rattle.power.proofs.Puts.{SameMarks, Goes, StepFacts, fetching-alike, room-facts, put-facts, drain-on}
 use Rattle.power.proofs.Passes.{both-ways}
@@ -188,17 +188,17 @@ module _ {Page Record Mask : Type 0} (S : PageStore Page Record Mask) (L : Lawfu
     exact-turns (suc limit) p g m = exact-step (λ q. turns S wd limit q) (λ q g m. exact-turns limit q g m) p g m (putPage S p) (put-facts S p)
 
   pub drain-logs : DrainLogs S
-  drain-logs d limit wd armed g z w m =
-      subst (λ (q : Pass S). LoggedExactly S wd (begin S d g z) q) (sym (drain-on S limit wd armed (begin S d g z) w)) (by-queue (d .queue))
+  drain-logs d order w m =
+      subst (λ (q : Pass S). LoggedExactly S (order .whileDisarmed) (ordered S d order) q) (sym (drain-on S order (ordered S d order) w)) (by-queue (d .queue))
     where
-      by-queue : (queue : List Record) → LoggedExactly S wd (begin S d g z) (drainWritable S limit wd armed queue (begin S d g z))
+      by-queue : (queue : List Record) → LoggedExactly S (order .whileDisarmed) (ordered S d order) (drainWritable S order queue (ordered S d order))
       by-queue [] =
-          both-ways (LoggedExactly S wd (begin S d g z)) (endsFlight S wd armed (d .writer .assembler .recording))
-          (withWriter S (withAssembler S (stopped S (d .writer .assembler)) (d .writer)) (begin S d g z)) (begin S d g z)
-          (exact-none wd (begin S d g z) (withWriter S (withAssembler S (stopped S (d .writer .assembler)) (d .writer)) (begin S d g z)) refl
+          both-ways (LoggedExactly S (order .whileDisarmed) (ordered S d order)) (endsFlight S (order .whileDisarmed) (order .armed) (d .writer .assembler .recording))
+          (withWriter S (withAssembler S (stopped S (d .writer .assembler)) (d .writer)) (ordered S d order)) (ordered S d order)
+          (exact-none (order .whileDisarmed) (ordered S d order) (withWriter S (withAssembler S (stopped S (d .writer .assembler)) (d .writer)) (ordered S d order)) refl
           (λ h. refl) (λ h. absurd (false≢true h)))
-          (exact-none wd (begin S d g z) (begin S d g z) refl (λ h. refl) (λ h. absurd (false≢true h)))
-      by-queue (x ∷ queue) = exact-turns wd limit (begin S d g z) refl m
+          (exact-none (order .whileDisarmed) (ordered S d order) (ordered S d order) refl (λ h. refl) (λ h. absurd (false≢true h)))
+      by-queue (x ∷ queue) = exact-turns (order .whileDisarmed) (order .limit) (ordered S d order) refl m
 
   -- and so through every call
   settled-next : (wd : Bool) (k : Pass S → Pass S) → ((p : Pass S) → MarksSettled S (p .writer) → MarksSettled S ((k p) .writer))
@@ -215,12 +215,12 @@ module _ {Page Record Mask : Type 0} (S : PageStore Page Record Mask) (L : Lawfu
   settled-turns wd zero p m = m
   settled-turns wd (suc limit) p m = settled-step wd (λ q. turns S wd limit q) (λ q m. settled-turns wd limit q m) p m (putPage S p) (put-facts S p)
 
-  settled-queue : (limit : ℕ) (wd armed : Bool) (p : Pass S) → MarksSettled S (p .writer) → (queue : List Record)
-      → MarksSettled S ((drainWritable S limit wd armed queue p) .writer)
-  settled-queue limit wd armed p m [] =
-      both-ways (λ (q : Pass S). MarksSettled S (q .writer)) (endsFlight S wd armed (p .writer .assembler .recording))
+  settled-queue : (order : Order Mask) (p : Pass S) → MarksSettled S (p .writer) → (queue : List Record)
+      → MarksSettled S ((drainWritable S order queue p) .writer)
+  settled-queue order p m [] =
+      both-ways (λ (q : Pass S). MarksSettled S (q .writer)) (endsFlight S (order .whileDisarmed) (order .armed) (p .writer .assembler .recording))
       (withWriter S (withAssembler S (stopped S (p .writer .assembler)) (p .writer)) p) p (settled-stop (p .writer) m) m
-  settled-queue limit wd armed p m (x ∷ queue) = settled-turns wd limit p m
+  settled-queue order p m (x ∷ queue) = settled-turns (order .whileDisarmed) (order .limit) p m
 
   settled-one : (o : Option Page) (p : Pass S) → MarksSettled S (p .writer) → MarksSettled S ((writeOne S o p) .writer)
   settled-one none p m = m
@@ -236,9 +236,9 @@ module _ {Page Record Mask : Type 0} (S : PageStore Page Record Mask) (L : Lawfu
 
   settled-call : (c : Call S) (d : Device S) → MarksSettled S (d .writer) → MarksSettled S ((call S c d) .writer)
   settled-call (offers r) d m = m
-  settled-call (drains limit wd armed g z) d m =
-      both-ways (λ (q : Pass S). MarksSettled S (q .writer)) (d .writer .writable) (drainWritable S limit wd armed (d .queue) (begin S d g z))
-      (withQueue S (dropOne S (d .queue)) (begin S d g z)) (settled-queue limit wd armed (begin S d g z) m (d .queue)) m
+  settled-call (drains order) d m =
+      both-ways (λ (q : Pass S). MarksSettled S (q .writer)) (d .writer .writable) (drainWritable S order (d .queue) (ordered S d order))
+      (withQueue S (dropOne S (d .queue)) (ordered S d order)) (settled-queue order (ordered S d order) m (d .queue)) m
   settled-call (writes g z) d m =
       settled-one ((fetchedIfWritable S (d .writer)) .waiting) (withWriter S (fetchedIfWritable S (d .writer)) (begin S d g z))
       (settled-fetched (d .writer) m)

@@ -10,10 +10,10 @@ use mathlib.Core.List.{List, [], _∷_, _++_, append-assoc, append-nil}
 use Rattle.power.specs.Pages.{PageStore, Each}
 use Rattle.power.specs.Lawful.{Lawful}
 use Rattle.power.specs.Writer.{Writer, new, taken, takenRecord, stored, stopped, withAssembler, begun}
-use Rattle.power.specs.Calls.{Pass, Step, goes-on, ends, programIfRoom, putPage, logs, takeOne, takeNext, afterPut, onward, turns, withWriter}
+use Rattle.power.specs.Calls.{Order, Pass, Step, goes-on, ends, programIfRoom, putPage, logs, takeOne, takeNext, afterPut, onward, turns, withWriter}
 use Rattle.power.specs.Calls.{endsFlight, drainWritable, dropOne, drain, fetched, fetchedIfWritable, unasked, endedWith, writeOne}
 use Rattle.power.specs.Calls.{writePending}
-use Rattle.power.specs.Life.{Device, Call, offers, drains, writes, powers, begin, afterPass, call, lives, unpowered}
+use Rattle.power.specs.Life.{ordered, Device, Call, offers, drains, writes, powers, begin, afterPass, call, lives, unpowered}
 use Rattle.power.specs.Reports.{MarksSettled}
 use Rattle.power.specs.Segments.{FirstRest}
 use Rattle.power.proofs.Events.{snoc-some}
@@ -169,24 +169,24 @@ module _ {Page Record Mask : Type 0} (S : PageStore Page Record Mask) (L : Lawfu
     well-turns wd (suc limit) p g on h =
         well-step wd (λ q. turns S wd limit q) (λ q a b c. well-turns wd limit q a b c) p g on h (putPage S p) (put-facts S p)
 
-    well-queue : (limit : ℕ) (wd armed : Bool) (p : Pass S) → p .powerGone ≡ false → p .writer .writable ≡ true → Well p → (queue : List Record)
-        → Well (drainWritable S limit wd armed queue p)
-    well-queue limit wd armed p g on h [] =
-        both-ways Well (endsFlight S wd armed (p .writer .assembler .recording))
+    well-queue : (order : Order Mask) (p : Pass S) → p .powerGone ≡ false → p .writer .writable ≡ true → Well p → (queue : List Record)
+        → Well (drainWritable S order queue p)
+    well-queue order p g on h [] =
+        both-ways Well (endsFlight S (order .whileDisarmed) (order .armed) (p .writer .assembler .recording))
         (withWriter S (withAssembler S (stopped S (p .writer .assembler)) (p .writer)) p) p
         (record { queue = h .queue; due = stop-due (p .writer) (now ++ p .logged) (h .due) }) h
-    well-queue limit wd armed p g on h (x ∷ queue) = well-turns wd limit p g on h
+    well-queue order p g on h (x ∷ queue) = well-turns (order .whileDisarmed) (order .limit) p g on h
 
     drop-plain : (queue : List Record) → Each Q queue → Each Q (dropOne S queue)
     drop-plain [] h = tt
     drop-plain (x ∷ queue) h = h .1
 
-    well-drain : (limit : ℕ) (wd armed : Bool) (p : Pass S) → p .powerGone ≡ false → Well p → Well (drain S limit wd armed p)
-    well-drain limit wd armed p g h = go (p .writer .writable) refl
+    well-drain : (order : Order Mask) (p : Pass S) → p .powerGone ≡ false → Well p → Well (drain S order p)
+    well-drain order p g h = go (p .writer .writable) refl
       where
-        go : (b : Bool) → p .writer .writable ≡ b → Well (drain S limit wd armed p)
-        go true e = subst Well (sym (drain-on S limit wd armed p e)) (well-queue limit wd armed p g e h (p .queue))
-        go false e = subst Well (sym (drain-off S limit wd armed p e)) (record { queue = drop-plain (p .queue) (h .queue); due = h .due })
+        go : (b : Bool) → p .writer .writable ≡ b → Well (drain S order p)
+        go true e = subst Well (sym (drain-on S order p e)) (well-queue order p g e h (p .queue))
+        go false e = subst Well (sym (drain-off S order p e)) (record { queue = drop-plain (p .queue) (h .queue); due = h .due })
 
     well-one : (o : Option Page) (p : Pass S) → p .powerGone ≡ false → Well p → Well (writeOne S o p)
     well-one none p g h = h
@@ -218,7 +218,7 @@ module _ {Page Record Mask : Type 0} (S : PageStore Page Record Mask) (L : Lawfu
   abbrev pub OffersAre : List (Call S) → Type 0
   OffersAre [] = Unit {0}
   OffersAre (offers r ∷ life) = Q r × OffersAre life
-  OffersAre (drains limit wd armed g z ∷ life) = OffersAre life
+  OffersAre (drains order ∷ life) = OffersAre life
   OffersAre (writes g z ∷ life) = OffersAre life
   OffersAre (powers ∷ life) = OffersAre life
 
@@ -228,10 +228,10 @@ module _ {Page Record Mask : Type 0} (S : PageStore Page Record Mask) (L : Lawfu
   after-well : (d : Device S) (p : Pass S) → WellDevice d → Well (d .now) p → WellDevice (afterPass S d p)
   after-well d p h k = record { queue = k .queue; past = h .past; due = k .due }
 
-  drain-well : (limit : ℕ) (wd armed : Bool) (d : Device S) (p : Pass S) → p .queue ≡ d .queue → p .writer ≡ d .writer → p .logged ≡ []
-      → p .powerGone ≡ false → WellDevice d → WellDevice (afterPass S d (drain S limit wd armed p))
-  drain-well limit wd armed d p e₁ e₂ e₃ g h =
-      after-well d (drain S limit wd armed p) h (well-drain (d .now) limit wd armed p g (begin-well d p e₁ e₂ e₃ h))
+  drain-well : (order : Order Mask) (d : Device S) (p : Pass S) → p .queue ≡ d .queue → p .writer ≡ d .writer → p .logged ≡ []
+      → p .powerGone ≡ false → WellDevice d → WellDevice (afterPass S d (drain S order p))
+  drain-well order d p e₁ e₂ e₃ g h =
+      after-well d (drain S order p) h (well-drain (d .now) order p g (begin-well d p e₁ e₂ e₃ h))
 
   write-well : (d : Device S) (p : Pass S) → p .queue ≡ d .queue → p .writer ≡ d .writer → p .logged ≡ [] → p .powerGone ≡ false → WellDevice d
       → WellDevice (afterPass S d (writePending S p))
@@ -242,8 +242,8 @@ module _ {Page Record Mask : Type 0} (S : PageStore Page Record Mask) (L : Lawfu
   well-lives (offers r ∷ life) d o h =
       well-lives life (call S (offers r) d) (o .1)
       (record { queue = each-append Q (d .queue) (r ∷ []) (h .queue) (o .0, tt); past = h .past; due = h .due })
-  well-lives (drains limit wd armed g z ∷ life) d o h =
-      well-lives life (call S (drains limit wd armed g z) d) o (drain-well limit wd armed d (begin S d g z) refl refl refl refl h)
+  well-lives (drains order ∷ life) d o h =
+      well-lives life (call S (drains order) d) o (drain-well order d (ordered S d order) refl refl refl refl h)
   well-lives (writes g z ∷ life) d o h = well-lives life (call S (writes g z) d) o (write-well d (begin S d g z) refl refl refl refl h)
   well-lives (powers ∷ life) d o h =
       well-lives life (call S powers d) o

@@ -15,10 +15,10 @@ use Rattle.power.specs.Pages.{PageStore}
 use Rattle.power.specs.Lawful.{Lawful}
 use Rattle.power.specs.Reading.{recordsOn}
 use Rattle.power.specs.Writer.{Writer}
-use Rattle.power.specs.Calls.{Next, busy, fault, cut, Pass, Step, goes-on, ends, program, programIfRoom, put, putPage, fetched}
+use Rattle.power.specs.Calls.{orderOf, Order, Next, busy, fault, cut, Pass, Step, goes-on, ends, program, programIfRoom, put, putPage, fetched}
 use Rattle.power.specs.Calls.{fetchedIfWritable, withWriter, severed, takeOne, takeNext, afterPut, onward, turns, drainWritable}
 use Rattle.power.specs.Calls.{drain, writeOne, writePending, logs, endedWith}
-use Rattle.power.specs.Life.{Device, Call, offers, drains, writes, powers, begin, afterPass, powerOn, call, lives, unpowered, history}
+use Rattle.power.specs.Life.{ordered, Device, Call, offers, drains, writes, powers, begin, afterPass, powerOn, call, lives, unpowered, history}
 use Rattle.power.specs.Life.{Undecoded, Assumed, AllAssumed, FlightsFit}
 use Rattle.power.specs.Theorem.{Holds}
 use Rattle.power.specs.Moments.{During, at-top, in-program, after-put, at-end, after-record, before, over, in-drain, in-write, LifeTo}
@@ -93,9 +93,9 @@ module _ {Page Record Mask : Type 0} (S : PageStore Page Record Mask) (L : Lawfu
       ∙ ap (λ (n : List (ℕ × Record)). found (d′ .log) (d′ .past) n) e₃
 
   -- a pass on a writable log with a record in the queue is its turns
-  drain-turns : (n : ℕ) (wd armed : Bool) (p : Pass S) (r : Record) (queue : List Record) → p .writer .writable ≡ true → p .queue ≡ r ∷ queue
-      → drain S n wd armed p ≡ turns S wd n p
-  drain-turns n wd armed p r queue w e = drain-on S n wd armed p w ∙ ap (λ (l : List Record). drainWritable S n wd armed l p) e
+  drain-turns : (order : Order Mask) (p : Pass S) (r : Record) (queue : List Record) → p .writer .writable ≡ true → p .queue ≡ r ∷ queue
+      → drain S order p ≡ turns S (order .whileDisarmed) (order .limit) p
+  drain-turns order p r queue w e = drain-on S order p w ∙ ap (λ (l : List Record). drainWritable S order l p) e
 
   -- write_pending with a cut to come, its page fetched
   abbrev cutting : Device S → Mask → Pass S
@@ -153,45 +153,48 @@ module _ {Page Record Mask : Type 0} (S : PageStore Page Record Mask) (L : Lawfu
   undecoded-as e un = subst (λ (x : Pass S). Undecoded S (x .unfinished)) (sym e) un
 
   -- a moment of the turns that began with the device d, in a pass that is no larger than the bound
-  module _ (Allowed : Mask → Type 0) (bound limit : ℕ) (wd armed : Bool) (g : ℕ) (z : Next Mask)
-      (small : NoLarger S Allowed bound (drains limit wd armed g z)) (d : Device S) (r : Record) (queue : List Record)
-      (w : d .writer .writable ≡ true) (e : d .queue ≡ r ∷ queue) where
+  module _ (Allowed : Mask → Type 0) (bound : ℕ) (order : Order Mask) (small : NoLarger S Allowed bound (drains order)) (d : Device S)
+      (r : Record) (queue : List Record) (w : d .writer .writable ≡ true) (e : d .queue ≡ r ∷ queue) where
+    -- the order with another limit
+    abbrev upTo : ℕ → Order Mask
+    upTo n = orderOf n (order .whileDisarmed) (order .armed) (order .succeed) (order .next)
+
     -- so is one of fewer turns
-    smaller : (n : ℕ) → n ≤ limit → NoLarger S Allowed bound (drains n wd armed g z)
+    smaller : (n : ℕ) → n ≤ order .limit → NoLarger S Allowed bound (drains (upTo n))
     smaller n b = let b′ = small .0 in (omega arith, small .1, small .2)
 
     -- after n turns, the pass and the device
     abbrev passed : ℕ → Pass S
-    passed n = turns S wd n (begin S d g z)
+    passed n = turns S (order .whileDisarmed) n (ordered S d order)
 
     abbrev stood : ℕ → Device S
     stood n = afterPass S d (passed n)
 
-    drained : (n : ℕ) → call S (drains n wd armed g z) d ≡ stood n
-    drained n = ap (afterPass S d) (drain-turns n wd armed (begin S d g z) r queue w e)
+    drained : (n : ℕ) → call S (drains (upTo n)) d ≡ stood n
+    drained n = ap (afterPass S d) (drain-turns (upTo n) (ordered S d order) r queue w e)
 
-    drain-assumed : (n : ℕ) → Undecoded S ((passed n) .unfinished) → Assumed S (drains n wd armed g z) d
-    drain-assumed n un = undecoded-as (drain-turns n wd armed (begin S d g z) r queue w e) un
+    drain-assumed : (n : ℕ) → Undecoded S ((passed n) .unfinished) → Assumed S (drains (upTo n)) d
+    drain-assumed n un = undecoded-as (drain-turns (upTo n) (ordered S d order) r queue w e) un
 
     -- a pass of n turns and then a call that is assumed of the device as it stands
-    then-assumed : (n : ℕ) (c : Call S) → (passed n) .unfinished ≡ none → Assumed S c (stood n) → AllAssumed S (drains n wd armed g z ∷ c ∷ []) d
+    then-assumed : (n : ℕ) (c : Call S) → (passed n) .unfinished ≡ none → Assumed S c (stood n) → AllAssumed S (drains (upTo n) ∷ c ∷ []) d
     then-assumed n c u a = (drain-assumed n (finished u), (subst (λ (x : Device S). Assumed S c x) (sym (drained n)) a, tt))
 
-    fetch : (n : ℕ) → Running (begin S d g z) (passed n) → fetchedIfWritable S ((passed n) .writer) ≡ fetched S ((passed n) .writer)
+    fetch : (n : ℕ) → Running (ordered S d order) (passed n) → fetchedIfWritable S ((passed n) .writer) ≡ fetched S ((passed n) .writer)
     fetch n k = fetched-writable ((passed n) .writer) (k .writable ∙ w)
 
-    life-at : {m : Pass S} → At Allowed wd limit (begin S d g z) m → Undecoded S (m .unfinished)
-        → LifeTo S Allowed bound (drains limit wd armed g z) d (afterPass S d m)
+    life-at : {m : Pass S} → At Allowed (order .whileDisarmed) (order .limit) (ordered S d order) m → Undecoded S (m .unfinished)
+        → LifeTo S Allowed bound (drains order) d (afterPass S d m)
     life-at (reached n b k) un =
         record {
-          life = drains n wd armed g z ∷ [];
+          life = drains (upTo n) ∷ [];
           no-larger = inr (smaller n b, tt);
           assumed = (drain-assumed n (undecoded-as k un), tt);
           same = ap (powerOn S) (drained n ∙ ap (afterPass S d) k);
         }
     life-at {m} (programming n b page keep a k h i s) un =
         record {
-          life = drains n wd armed g z ∷ writes 0 (cut keep) ∷ [];
+          life = drains (upTo n) ∷ writes 0 (cut keep) ∷ [];
           no-larger = inr (smaller n b, ((omega arith, a), tt));
           assumed = then-assumed n (writes 0 (cut keep)) (k .unfinished) (undecoded-as is (undecoded-as s un));
           same =
@@ -210,7 +213,7 @@ module _ {Page Record Mask : Type 0} (S : PageStore Page Record Mask) (L : Lawfu
         logged = ap (λ (x : Pass S). (stood n) .now ++ x .logged) is ∙ append-nil ((stood n) .now) ∙ ap (λ (x : Pass S). d .now ++ x .logged) s
     life-at {m} (putted n b k h) un =
         record {
-          life = drains n wd armed g z ∷ writes 1 busy ∷ [];
+          life = drains (upTo n) ∷ writes 1 busy ∷ [];
           no-larger = let b′ = small .0 in inr (smaller n (omega arith), ((omega arith, tt), tt));
           assumed = then-assumed n (writes 1 busy) (k .unfinished) (finished (wrote .unfinished));
           same =
@@ -235,8 +238,8 @@ module _ {Page Record Mask : Type 0} (S : PageStore Page Record Mask) (L : Lawfu
   pub every-moment : EveryMoment S
   every-moment Allowed n c d d′ b before = record { life = []; no-larger = inr tt; assumed = tt; same = refl }
   every-moment Allowed n c d d′ b (over a) = record { life = c ∷ []; no-larger = inl refl; assumed = (a, tt); same = refl }
-  every-moment Allowed n c d d′ b (in-drain limit wd armed g z r queue w e k un) =
-      life-at Allowed n limit wd armed g z b d r queue w e (moment-at wd k) un
+  every-moment Allowed n c d d′ b (in-drain order r queue w e k un) =
+      life-at Allowed n order b d r queue w e (moment-at (order .whileDisarmed) k) un
   every-moment Allowed n c d d′ b (in-write g z page keep a w i un) =
       record {
         life = writes 0 (cut keep) ∷ [];
@@ -259,13 +262,13 @@ module _ {Page Record Mask : Type 0} (S : PageStore Page Record Mask) (L : Lawfu
   any-moment : {Allowed : Mask → Type 0} {c : Call S} {d d′ : Device S} → Moment S Allowed c d d′ → Moment S Any c d d′
   any-moment before = before
   any-moment (over a) = over a
-  any-moment (in-drain limit wd armed g z r queue w e k un) = in-drain limit wd armed g z r queue w e (any-during k) un
+  any-moment (in-drain order r queue w e k un) = in-drain order r queue w e (any-during k) un
   any-moment (in-write g z page keep a w i un) = in-write g z page keep tt w i un
 
   -- and there a call is bounded by its own numbers
   abbrev own : Call S → ℕ
   own (offers r) = 0
-  own (drains limit wd armed g z) = limit + g
+  own (drains order) = order .limit + order .succeed
   own (writes g z) = g
   own powers = 0
 
@@ -276,7 +279,7 @@ module _ {Page Record Mask : Type 0} (S : PageStore Page Record Mask) (L : Lawfu
 
   own-bounded : (c : Call S) → Bounded S Any (own c) c
   own-bounded (offers r) = tt
-  own-bounded (drains limit wd armed g z) = (omega arith, omega arith, any-mask z)
+  own-bounded (drains order) = (omega arith, omega arith, any-mask (order .next))
   own-bounded (writes g z) = (omega arith, any-mask z)
   own-bounded powers = tt
 

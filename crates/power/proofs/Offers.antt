@@ -10,9 +10,9 @@ use lib.ListN.{length, length-append}
 use Rattle.power.specs.Pages.{PageStore, Each}
 use Rattle.power.specs.Lawful.{Lawful}
 use Rattle.power.specs.Writer.{Writer, withAssembler, stopped}
-use Rattle.power.specs.Calls.{Next, Pass, Step, goes-on, ends, programIfRoom, putPage, takeOne, takeNext, afterPut, onward, turns, withWriter}
+use Rattle.power.specs.Calls.{Order, Next, Pass, Step, goes-on, ends, programIfRoom, putPage, takeOne, takeNext, afterPut, onward, turns, withWriter}
 use Rattle.power.specs.Calls.{logs, endsFlight, withQueue, dropOne, drainWritable, drain, fetched, fetchedIfWritable, unasked, endedWith, writeOne, writePending}
-use Rattle.power.specs.Life.{Device, Call, offers, drains, writes, powers, begin, call, lives, unpowered, history}
+use Rattle.power.specs.Life.{ordered, Device, Call, offers, drains, writes, powers, begin, call, lives, unpowered, history}
 use Rattle.power.specs.Reports.{recordsIn, editionIf, logsOne, loggedOnes, markFirst, LoggedExactly}
 use Rattle.power.specs.Segments.{filled}
 use Rattle.power.specs.Boards.{Behind, Near, NearAll, Aligned, at-end, seen, eachSeen}
@@ -47,17 +47,17 @@ module _ {Page Record Mask : Type 0} (S : PageStore Page Record Mask) (L : Lawfu
   gone-turns wd zero p g h = absurd (false≢true (sym g ∙ h))
   gone-turns wd (suc limit) p g h = gone-step wd (λ q. turns S wd limit q) (λ q a b. gone-turns wd limit q a b) p g (putPage S p) (put-facts S p) h
 
-  gone-drain : (limit : ℕ) (wd armed : Bool) (p : Pass S) → p .powerGone ≡ false → p .writer .writable ≡ true
-      → (drain S limit wd armed p) .powerGone ≡ true → (drain S limit wd armed p) .writer .writable ≡ false
-  gone-drain limit wd armed p g on =
-      subst (λ (q : Pass S). q .powerGone ≡ true → q .writer .writable ≡ false) (sym (drain-on S limit wd armed p on)) (go (p .queue))
+  gone-drain : (order : Order Mask) (p : Pass S) → p .powerGone ≡ false → p .writer .writable ≡ true
+      → (drain S order p) .powerGone ≡ true → (drain S order p) .writer .writable ≡ false
+  gone-drain order p g on =
+      subst (λ (q : Pass S). q .powerGone ≡ true → q .writer .writable ≡ false) (sym (drain-on S order p on)) (go (p .queue))
     where
-      go : (queue : List Record) → (drainWritable S limit wd armed queue p) .powerGone ≡ true → (drainWritable S limit wd armed queue p) .writer .writable ≡ false
+      go : (queue : List Record) → (drainWritable S order queue p) .powerGone ≡ true → (drainWritable S order queue p) .writer .writable ≡ false
       go [] =
-          both-ways (λ (q : Pass S). q .powerGone ≡ true → q .writer .writable ≡ false) (endsFlight S wd armed (p .writer .assembler .recording))
+          both-ways (λ (q : Pass S). q .powerGone ≡ true → q .writer .writable ≡ false) (endsFlight S (order .whileDisarmed) (order .armed) (p .writer .assembler .recording))
           (withWriter S (withAssembler S (stopped S (p .writer .assembler)) (p .writer)) p) p (λ h. absurd (false≢true (sym g ∙ h)))
           (λ h. absurd (false≢true (sym g ∙ h)))
-      go (x ∷ queue) = gone-turns wd limit p g
+      go (x ∷ queue) = gone-turns (order .whileDisarmed) (order .limit) p g
 
   -- ---- write_pending leaves the queue alone, or the power went
   record Quiet (p q : Pass S) : Type 0 where
@@ -147,7 +147,7 @@ module _ {Page Record Mask : Type 0} (S : PageStore Page Record Mask) (L : Lawfu
     offers-are : (life : List (Call S)) → OffersOf S e life → OffersAre S L Of Of (λ x. x ≡ e) of-marked of-own life
     offers-are [] h = tt
     offers-are (offers r ∷ life) h = (h .0, offers-are life (h .1))
-    offers-are (drains limit wd armed g z ∷ life) h = offers-are life h
+    offers-are (drains order ∷ life) h = offers-are life h
     offers-are (writes g z ∷ life) h = offers-are life h
     offers-are (powers ∷ life) h = offers-are life h
 
@@ -197,18 +197,17 @@ module _ {Page Record Mask : Type 0} (S : PageStore Page Record Mask) (L : Lawfu
           few = rw (h .waits on) b;
         }
 
-    hears-drain : (took : List Record) (limit : ℕ) (armed : Bool) (g : ℕ) (z : Next Mask) (d : Device S) → length (d .queue) ≤ room
-        → WellD ed d → Hears took d
-        → Hears took (call S (drains limit wd armed g z) d)
-    hears-drain took limit armed g z d b w h = by (d .writer .writable) refl
+    hears-drain : (took : List Record) (order : Order Mask) (d : Device S) → order .whileDisarmed ≡ wd → length (d .queue) ≤ room → WellD ed d
+        → Hears took d → Hears took (call S (drains order) d)
+    hears-drain took order d is b w h = by (d .writer .writable) refl
       where
         p : Pass S
-        p = drain S limit wd armed (begin S d g z)
+        p = drain S order (ordered S d order)
 
-        off : d .writer .writable ≡ false → p ≡ withQueue S (dropOne S (d .queue)) (begin S d g z)
-        off e = drain-off S limit wd armed (begin S d g z) e
+        off : d .writer .writable ≡ false → p ≡ withQueue S (dropOne S (d .queue)) (ordered S d order)
+        off e = drain-off S order (ordered S d order) e
 
-        by : (b : Bool) → d .writer .writable ≡ b → Hears took (call S (drains limit wd armed g z) d)
+        by : (b : Bool) → d .writer .writable ≡ b → Hears took (call S (drains order) d)
         by false e =
             record {
               left = h .left;
@@ -236,8 +235,8 @@ module _ {Page Record Mask : Type 0} (S : PageStore Page Record Mask) (L : Lawfu
               few = omega (arith, b, ap length (x .queue), length-append (x .left) (x .rest));
             }
           where
-            x : LoggedExactly S wd (begin S d g z) p
-            x = drain-logs S L d limit wd armed g z e (w .due .settled)
+            x : LoggedExactly S wd (ordered S d order) p
+            x = subst (λ (b : Bool). LoggedExactly S b (ordered S d order) p) is (drain-logs S L d order e (w .due .settled))
 
             -- what left the queue is of the edition
             of-left : Each (Of ed) (x .left)
@@ -250,7 +249,7 @@ module _ {Page Record Mask : Type 0} (S : PageStore Page Record Mask) (L : Lawfu
                 (ones-loggable ed wd (d .writer .assembler .recording) (d .writer .assembler .edition) (w .due .edition) (x .left) of-left)
 
             on : p .writer .writable ≡ true → (b : Bool) → p .powerGone ≡ b → p .powerGone ≡ false
-            on a true q = absurd (false≢true (sym (gone-drain limit wd armed (begin S d g z) refl e q) ∙ a))
+            on a true q = absurd (false≢true (sym (gone-drain order (ordered S d order) refl e q) ∙ a))
             on a false q = q
 
             none-yet : d .writer .markDue ≡ true → loggable S wd (h .left) ≡ []
@@ -292,9 +291,9 @@ module _ {Page Record Mask : Type 0} (S : PageStore Page Record Mask) (L : Lawfu
     heard-lives (offers r ∷ life) tooks took d o s b w p h =
         heard-lives life tooks (took ++ r ∷ []) (call S (offers r) d) (o .1) s (b .2) (well-call ed (offers r) d (o .0, tt) w) p
         (hears-offer took r d (b .1) (within-here room life (call S (offers r) d) (b .2)) h)
-    heard-lives (drains limit setting armed g z ∷ life) tooks took d o s b w p h =
-        heard-lives life tooks took (call S (drains limit setting armed g z) d) o (s .1) (b .2) (well-call ed (drains limit setting armed g z) d tt w) p
-        (subst (λ (x : Bool). Hears took (call S (drains limit x armed g z) d)) (sym (s .0)) (hears-drain took limit armed g z d (b .0) w h))
+    heard-lives (drains order ∷ life) tooks took d o s b w p h =
+        heard-lives life tooks took (call S (drains order) d) o (s .1) (b .2) (well-call ed (drains order) d tt w) p
+        (hears-drain took order d (s .0) (b .0) w h)
     heard-lives (writes g z ∷ life) tooks took d o s b w p h =
         heard-lives life tooks took (call S (writes g z) d) o s (b .2) (well-call ed (writes g z) d tt w) p (hears-write took g z d h)
     heard-lives (powers ∷ life) tooks took d o s b w p h =

@@ -11,7 +11,7 @@ use lib.Dec.{ltb}
 use lib.ListN.{length}
 use Rattle.power.specs.Pages.{PageStore}
 use Rattle.power.specs.Writer.{Writer, new}
-use Rattle.power.specs.Calls.{Next, busy, fault, cut, Pass, Step, goes-on, ends, program, programIfRoom, put, putPage, fetching, fetched}
+use Rattle.power.specs.Calls.{Order, Next, busy, fault, cut, Pass, Step, goes-on, ends, program, programIfRoom, put, putPage, fetching, fetched}
 use Rattle.power.specs.Calls.{withWriter, withQueue, dropOne, drainWritable, drain}
 
 module _ {Page Record Mask : Type 0} (S : PageStore Page Record Mask) where
@@ -169,9 +169,9 @@ module _ {Page Record Mask : Type 0} (S : PageStore Page Record Mask) where
       (option-facts (fetched S (p .writer) .waiting) (withWriter S (fetched S (p .writer)) p))
 
   -- drain by whether the log is writable
-  pub drain-on : (limit : ℕ) (wd armed : Bool) (p : Pass S) → p .writer .writable ≡ true
-      → drain S limit wd armed p ≡ drainWritable S limit wd armed (p .queue) p
-  drain-on limit wd armed p h = ap (λ (b : Bool). cond b (drainWritable S limit wd armed (p .queue) p) (withQueue S (dropOne S (p .queue)) p)) h
+  pub drain-on : (order : Order Mask) (p : Pass S) → p .writer .writable ≡ true
+      → drain S order p ≡ drainWritable S order (p .queue) p
+  drain-on order p h = ap (λ (b : Bool). cond b (drainWritable S order (p .queue) p) (withQueue S (dropOne S (p .queue)) p)) h
 
-  pub drain-off : (limit : ℕ) (wd armed : Bool) (p : Pass S) → p .writer .writable ≡ false → drain S limit wd armed p ≡ withQueue S (dropOne S (p .queue)) p
-  drain-off limit wd armed p h = ap (λ (b : Bool). cond b (drainWritable S limit wd armed (p .queue) p) (withQueue S (dropOne S (p .queue)) p)) h
+  pub drain-off : (order : Order Mask) (p : Pass S) → p .writer .writable ≡ false → drain S order p ≡ withQueue S (dropOne S (p .queue)) p
+  drain-off order p h = ap (λ (b : Bool). cond b (drainWritable S order (p .queue) p) (withQueue S (dropOne S (p .queue)) p)) h

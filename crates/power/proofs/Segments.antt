@@ -109,7 +109,7 @@ module _ {Page Record Mask : Type 0} (S : PageStore Page Record Mask) (L : Lawfu
   offers-are : (life : List (Call S)) → PlainOffers S life → OffersAre S L Marked Plain AnyEdition setting any-own life
   offers-are [] h = tt
   offers-are (offers r ∷ life) h = (h .0, offers-are life (h .1))
-  offers-are (drains limit wd armed g z ∷ life) h = offers-are life h
+  offers-are (drains order ∷ life) h = offers-are life h
   offers-are (writes g z ∷ life) h = offers-are life h
   offers-are (powers ∷ life) h = offers-are life h
 

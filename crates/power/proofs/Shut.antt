@@ -128,10 +128,10 @@ module _ {Page Record Mask : Type 0} (S : PageStore Page Record Mask) (L : Lawfu
 
   silent-call : (c : Call S) (d : Device S) → d .writer .writable ≡ false → d .now ≡ [] → Silent d (call S c d)
   silent-call (offers r) d w e = record { past = refl; now = e }
-  silent-call (drains limit wd armed g z) d w e =
+  silent-call (drains order) d w e =
       record {
         past = refl;
-        now = ap (λ (l : List (ℕ × Record)). d .now ++ l) (unwritable-logs-nothing S d limit wd armed g z w) ∙ append-nil (d .now) ∙ e;
+        now = ap (λ (l : List (ℕ × Record)). d .now ++ l) (unwritable-logs-nothing S d order w) ∙ append-nil (d .now) ∙ e;
       }
   silent-call (writes g z) d w e =
       record { past = refl; now = ap (λ (l : List (ℕ × Record)). d .now ++ l) (write-logs-nothing S d g z) ∙ append-nil (d .now) ∙ e }
@@ -152,7 +152,7 @@ module _ {Page Record Mask : Type 0} (S : PageStore Page Record Mask) (L : Lawfu
   grows : (life : List (Call S)) (d : Device S) → (rest : List (List (ℕ × Record))) × (history S (lives S life d) ≡ d .past ++ rest)
   grows [] d = (d .now ∷ [], refl)
   grows (offers r ∷ life) d = grows life (call S (offers r) d)
-  grows (drains limit wd armed g z ∷ life) d = grows life (call S (drains limit wd armed g z) d)
+  grows (drains order ∷ life) d = grows life (call S (drains order) d)
   grows (writes g z ∷ life) d = grows life (call S (writes g z) d)
   grows (powers ∷ life) d = let i = grows life (call S powers d) in (d .now ∷ i .0, i .1 ∙ append-assoc (d .past) (d .now ∷ []) (i .0))
 

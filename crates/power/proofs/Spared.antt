@@ -19,10 +19,10 @@ use Rattle.power.specs.Reading.{Blanks, pageAt}
 use Rattle.power.specs.Grammar.{Ending, unused, ended, frayed, foreign, LooseRule, Follows}
 use Rattle.power.specs.Scan.{scan}
 use Rattle.power.specs.Writer.{Writer, stopped, withAssembler}
-use Rattle.power.specs.Calls.{Next, busy, fault, cut, Pass, Step, goes-on, ends, programmedCell, programmedAt, program, programIfRoom, put, putPage}
+use Rattle.power.specs.Calls.{Order, Next, busy, fault, cut, Pass, Step, goes-on, ends, programmedCell, programmedAt, program, programIfRoom, put, putPage}
 use Rattle.power.specs.Calls.{fetched, withWriter, logs, takeOne, takeNext, afterPut, onward, turns, endsFlight, drainWritable}
 use Rattle.power.specs.Calls.{drain, unasked, endedWith, writeOne, writePending}
-use Rattle.power.specs.Life.{Device, Call, offers, drains, writes, powers, begin, powerOn, call, lives, unpowered, Undecoded, Assumed, AllAssumed}
+use Rattle.power.specs.Life.{ordered, Device, Call, offers, drains, writes, powers, begin, powerOn, call, lives, unpowered, Undecoded, Assumed, AllAssumed}
 use Rattle.power.specs.Theorem.{erased}
 use Rattle.power.specs.Spared.{Scarring, NextSpares, CallSpares, LifeSpares, SparedMeetsAssumption, SparedByPowerOn}
 use Rattle.power.proofs.Used.{at-all, unused-none}
@@ -133,19 +133,19 @@ module _ {Page Record Mask : Type 0} (S : PageStore Page Record Mask) (L : Lawfu
   turns-spared wd (suc limit) p on h =
       step-spared wd (λ q. turns S wd limit q) (λ q on h. turns-spared wd limit q on h) p on (putPage S p) (put-facts S p) (put-spared p on h)
 
-  queue-spared : (limit : ℕ) (wd armed : Bool) (queue : List Record) (p : Pass S) → p .writer .writable ≡ true → Spared p
-      → Spared (drainWritable S limit wd armed queue p)
-  queue-spared limit wd armed [] p on h =
-      both-ways Spared (endsFlight S wd armed (p .writer .assembler .recording)) (withWriter S (withAssembler S (stopped S (p .writer .assembler)) (p .writer)) p) p
+  queue-spared : (order : Order Mask) (queue : List Record) (p : Pass S) → p .writer .writable ≡ true → Spared p
+      → Spared (drainWritable S order queue p)
+  queue-spared order [] p on h =
+      both-ways Spared (endsFlight S (order .whileDisarmed) (order .armed) (p .writer .assembler .recording)) (withWriter S (withAssembler S (stopped S (p .writer .assembler)) (p .writer)) p) p
       (record { next = h .next; ready = h .ready; undecoded = h .undecoded }) h
-  queue-spared limit wd armed (x ∷ queue) p on h = turns-spared wd limit p on h
+  queue-spared order (x ∷ queue) p on h = turns-spared (order .whileDisarmed) (order .limit) p on h
 
-  drain-spared : (limit : ℕ) (wd armed : Bool) (p : Pass S) → Spared p → Spared (drain S limit wd armed p)
-  drain-spared limit wd armed p h = go (p .writer .writable) refl
+  drain-spared : (order : Order Mask) (p : Pass S) → Spared p → Spared (drain S order p)
+  drain-spared order p h = go (p .writer .writable) refl
     where
-      go : (b : Bool) → p .writer .writable ≡ b → Spared (drain S limit wd armed p)
-      go true e = subst Spared (sym (drain-on S limit wd armed p e)) (queue-spared limit wd armed (p .queue) p e h)
-      go false e = subst Spared (sym (drain-off S limit wd armed p e)) (record { next = h .next; ready = h .ready; undecoded = h .undecoded })
+      go : (b : Bool) → p .writer .writable ≡ b → Spared (drain S order p)
+      go true e = subst Spared (sym (drain-on S order p e)) (queue-spared order (p .queue) p e h)
+      go false e = subst Spared (sym (drain-off S order p e)) (record { next = h .next; ready = h .ready; undecoded = h .undecoded })
 
   -- write_pending
   one-spared : (o : Option Page) (p : Pass S) → p .writer .writable ≡ true → Spared p → Spared (writeOne S o p)
@@ -202,9 +202,9 @@ module _ {Page Record Mask : Type 0} (S : PageStore Page Record Mask) (L : Lawfu
     begins : (d : Device S) (g : ℕ) (z : Next Mask) → NextSpares S Spares z → Ready (d .log) (d .writer) → Spared (begin S d g z)
     begins d g z s h = record { next = s; ready = h; undecoded = tt }
 
-    drained : (limit : ℕ) (wd armed : Bool) (d : Device S) (g : ℕ) (z : Next Mask) → NextSpares S Spares z → Ready (d .log) (d .writer)
-        → Spared (drain S limit wd armed (begin S d g z))
-    drained limit wd armed d g z s h = drain-spared limit wd armed (begin S d g z) (begins d g z s h)
+    drained : (order : Order Mask) (d : Device S) → NextSpares S Spares (order .next) → Ready (d .log) (d .writer)
+        → Spared (drain S order (ordered S d order))
+    drained order d s h = drain-spared order (ordered S d order) (begins d (order .succeed) (order .next) s h)
 
     wrote : (d : Device S) (g : ℕ) (z : Next Mask) → NextSpares S Spares z → Stands S L G d → Ready (d .log) (d .writer)
         → Spared (writePending S (begin S d g z))
@@ -229,10 +229,10 @@ module _ {Page Record Mask : Type 0} (S : PageStore Page Record Mask) (L : Lawfu
   lives-spared [] k d s b h q = tt
   lives-spared (offers r ∷ life) k d s b h q =
       onward-spared (offers r) life d (s .0) b h (λ h′. lives-spared life k (call S (offers r) d) (s .1) b h′ q)
-  lives-spared (drains limit wd armed g z ∷ life) k d s b h q =
-      let one = drained S L (Scar k) (Spares k) (F k) G limit wd armed d g z (s .0) q in
-      onward-spared (drains limit wd armed g z) life d (one .undecoded) b h
-      (λ h′. lives-spared life k (call S (drains limit wd armed g z) d) (s .1) b h′ (one .ready))
+  lives-spared (drains order ∷ life) k d s b h q =
+      let one = drained S L (Scar k) (Spares k) (F k) G order d (s .0) q in
+      onward-spared (drains order) life d (one .undecoded) b h
+      (λ h′. lives-spared life k (call S (drains order) d) (s .1) b h′ (one .ready))
   lives-spared (writes g z ∷ life) k d s b h q =
       let one = wrote S L (Scar k) (Spares k) (F k) G d g z (s .0) h q in
       onward-spared (writes g z) life d (one .undecoded) b h (λ h′. lives-spared life k (call S (writes g z) d) (s .1) b h′ (one .ready))
@@ -250,7 +250,7 @@ module _ {Page Record Mask : Type 0} (S : PageStore Page Record Mask) (L : Lawfu
   one-scar : (Spares : Mask → Type 0) (life : List (Call S)) → Each (CallSpares S Spares) life → LifeSpares S (λ (one : Unit {0}). Spares) tt life
   one-scar Spares [] s = tt
   one-scar Spares (offers r ∷ life) s = (s .0, one-scar Spares life (s .1))
-  one-scar Spares (drains limit wd armed g z ∷ life) s = (s .0, one-scar Spares life (s .1))
+  one-scar Spares (drains order ∷ life) s = (s .0, one-scar Spares life (s .1))
   one-scar Spares (writes g z ∷ life) s = (s .0, one-scar Spares life (s .1))
   one-scar Spares (powers ∷ life) s = (tt, one-scar Spares life (s .1))
 

@@ -17,7 +17,7 @@ use Rattle.power.specs.Claims.{Kept, no-power-on, power-on, OnlyAdds}
 use Rattle.power.specs.Scan.{scan}
 use Rattle.power.specs.Writer.{Writer, new, recover}
 use Rattle.power.specs.Calls.{Next, Pass, withWriter, drain, writePending}
-use Rattle.power.specs.Life.{Device, Call, offers, drains, writes, powers, begin, afterPass, powerOn, call, lives, unpowered, history, Assumed}
+use Rattle.power.specs.Life.{ordered, Device, Call, offers, drains, writes, powers, begin, afterPass, powerOn, call, lives, unpowered, history, Assumed}
 use Rattle.power.specs.Life.{AllAssumed, FlightsFit}
 use Rattle.power.specs.Theorem.{Holds, Beginning, EveryLife, RecordsStay, NotWritable, NoWrap, erased, FromErased, StrictFromErased, StayFromErased}
 use Rattle.power.proofs.Used.{none-some, records-append, records-blanks, log-map}
@@ -66,7 +66,7 @@ module _ {Page Record Mask : Type 0} (S : PageStore Page Record Mask) (L : Lawfu
 
   fit-call : (c : Call S) (d : Device S) → FlightsFit S (history S (call S c d)) → FlightsFit S (history S d)
   fit-call (offers r) d h = h
-  fit-call (drains limit wd armed g z) d h = fit-logged (d .past) (d .now) ((drain S limit wd armed (begin S d g z)) .logged) h
+  fit-call (drains order) d h = fit-logged (d .past) (d .now) ((drain S order (ordered S d order)) .logged) h
   fit-call (writes g z) d h = fit-logged (d .past) (d .now) ((writePending S (begin S d g z)) .logged) h
   fit-call powers d h = each-left (Small S L) (d .past ++ d .now ∷ []) _ h
 
@@ -126,9 +126,9 @@ module _ {Page Record Mask : Type 0} (S : PageStore Page Record Mask) (L : Lawfu
           stands = record { inv = h .inv; sane = h .sane; fits = each-append (S .Fits) (d .queue) (r ∷ []) (h .fits) (a, tt); small = h .small };
           adds = adds-none S L (d .log);
         }
-    call-keeps (drains limit wd armed g z) d a b h =
-        let k = drain-keeps S L G (d .past) (d .now) limit wd armed (begin S d g z) (begins d g z h) a (why d (drain S limit wd armed (begin S d g z)) b) in
-        record { stands = after d (drain S limit wd armed (begin S d g z)) h (k .good); adds = k .adds }
+    call-keeps (drains order) d a b h =
+        let k = drain-keeps S L G (d .past) (d .now) order (ordered S d order) (begins d (order .succeed) (order .next) h) a (why d (drain S order (ordered S d order)) b) in
+        record { stands = after d (drain S order (ordered S d order)) h (k .good); adds = k .adds }
     call-keeps (writes g z) d a b h =
         let k = write-keeps S L G (d .past) (d .now) (begin S d g z) (begins d g z h) a in
         record { stands = after d (writePending S (begin S d g z)) h (k .good); adds = k .adds }
@@ -268,8 +268,8 @@ module _ {Page Record Mask : Type 0} (S : PageStore Page Record Mask) (L : Lawfu
   pub quiet-call : (c : Call S) (l : List Page) (d : Device S) → (scan S l) .writable ≡ false → d .log ≡ l → d .writer .writable ≡ false → d .writer .waiting ≡ none
       → ((call S c d) .log ≡ l) × ((call S c d) .writer .writable ≡ false) × ((call S c d) .writer .waiting ≡ none)
   quiet-call (offers r) l d h e w n = (e, w, n)
-  quiet-call (drains limit wd armed g z) l d h e w n =
-      let q = drain-off S limit wd armed (begin S d g z) w in
+  quiet-call (drains order) l d h e w n =
+      let q = drain-off S order (ordered S d order) w in
       (ap (λ (p : Pass S). p .log) q ∙ e, ap (λ (p : Pass S). p .writer .writable) q ∙ w, ap (λ (p : Pass S). p .writer .waiting) q ∙ n)
   quiet-call (writes g z) l d h e w n =
       let q =

@@ -10,7 +10,7 @@ use Rattle.power.specs.Reading.{Torn, pageAt}
 use Rattle.power.specs.Pages.{PageStore}
 use Rattle.power.specs.Lawful.{Lawful}
 use Rattle.power.specs.Calls.{drain}
-use Rattle.power.specs.Life.{Device, Call, offers, drains, writes, powers, begin, powerOn, call, lives, unpowered, Assumed, AllAssumed}
+use Rattle.power.specs.Life.{ordered, Device, Call, offers, drains, writes, powers, begin, powerOn, call, lives, unpowered, Assumed, AllAssumed}
 use Rattle.power.specs.Theorem.{erased}
 use Rattle.power.specs.Torn.{tornIn, NoPowerOn, Finished, AllFinished, TornOnce, AtMostOneTorn, NoneTornIfFinished, unfinishedIn, TornIsLeft}
 use Rattle.power.proofs.Invariant.{Ground}
@@ -35,16 +35,16 @@ module _ {Page Record Mask : Type 0} (S : PageStore Page Record Mask) (L : Lawfu
     pub call-tears : (c : Call S) (d : Device S) → Assumed S c d → Because S L G (call S c d) → Stands S L G d → NoPowerOn S (c ∷ []) → (n : ℕ)
         → Few S L n (d .log) (d .writer) → Few S L n (call S c d .log) (call S c d .writer)
     call-tears (offers r) d a b h o n f = f
-    call-tears (drains l wd armed g z) d a b h o n f =
-        drain-keeps S L G (d .past) (d .now) l wd armed (begin S d g z) (begins S L G d g z h) a (why S L G d (drain S l wd armed (begin S d g z)) b) .tears .few n f
+    call-tears (drains order) d a b h o n f =
+        drain-keeps S L G (d .past) (d .now) order (ordered S d order) (begins S L G d (order .succeed) (order .next) h) a (why S L G d (drain S order (ordered S d order)) b) .tears .few n f
     call-tears (writes g z) d a b h o n f = write-keeps S L G (d .past) (d .now) (begin S d g z) (begins S L G d g z h) a .tears .few n f
     call-tears powers d a b h o n f = absurd o
 
     call-calm : (c : Call S) (d : Device S) → Assumed S c d → Because S L G (call S c d) → Stands S L G d → Finished S c d
         → tornIn S (call S c d .log) ≤ tornIn S (d .log)
     call-calm (offers r) d a b h u = omega arith
-    call-calm (drains l wd armed g z) d a b h u =
-        drain-keeps S L G (d .past) (d .now) l wd armed (begin S d g z) (begins S L G d g z h) a (why S L G d (drain S l wd armed (begin S d g z)) b) .tears .calm u .1
+    call-calm (drains order) d a b h u =
+        drain-keeps S L G (d .past) (d .now) order (ordered S d order) (begins S L G d (order .succeed) (order .next) h) a (why S L G d (drain S order (ordered S d order)) b) .tears .calm u .1
     call-calm (writes g z) d a b h u = write-keeps S L G (d .past) (d .now) (begin S d g z) (begins S L G d g z h) a .tears .calm u .1
     call-calm powers d a b h u = omega arith
 
@@ -52,8 +52,8 @@ module _ {Page Record Mask : Type 0} (S : PageStore Page Record Mask) (L : Lawfu
     pub call-left : (c : Call S) (d : Device S) → Assumed S c d → Because S L G (call S c d) → Stands S L G d → (i : ℕ) → Torn S (pageAt S (call S c d .log) i)
         → Torn S (pageAt S (d .log) i) ⊎ ((page : Page) × (unfinishedIn S c d ≡ some (page, pageAt S (call S c d .log) i)))
     call-left (offers r) d a b h i t = inl t
-    call-left (drains l wd armed g z) d a b h i t =
-        drain-keeps S L G (d .past) (d .now) l wd armed (begin S d g z) (begins S L G d g z h) a (why S L G d (drain S l wd armed (begin S d g z)) b) .tears .left refl i t
+    call-left (drains order) d a b h i t =
+        drain-keeps S L G (d .past) (d .now) order (ordered S d order) (begins S L G d (order .succeed) (order .next) h) a (why S L G d (drain S order (ordered S d order)) b) .tears .left refl i t
     call-left (writes g z) d a b h i t = write-keeps S L G (d .past) (d .now) (begin S d g z) (begins S L G d g z h) a .tears .left refl i t
     call-left powers d a b h i t = inl t
 
@@ -61,14 +61,14 @@ module _ {Page Record Mask : Type 0} (S : PageStore Page Record Mask) (L : Lawfu
     pub call-front : (c : Call S) (d : Device S) → Assumed S c d → Because S L G (call S c d) → Stands S L G d → NoPowerOn S (c ∷ []) → (k : ℕ)
         → Under S L k (d .writer) → (take k (call S c d .log) ≡ take k (d .log)) × Under S L k (call S c d .writer)
     call-front (offers r) d a b h o k u = (refl, u)
-    call-front (drains l wd armed g z) d a b h o k u =
-        drain-keeps S L G (d .past) (d .now) l wd armed (begin S d g z) (begins S L G d g z h) a (why S L G d (drain S l wd armed (begin S d g z)) b) .tears .front k u
+    call-front (drains order) d a b h o k u =
+        drain-keeps S L G (d .past) (d .now) order (ordered S d order) (begins S L G d (order .succeed) (order .next) h) a (why S L G d (drain S order (ordered S d order)) b) .tears .front k u
     call-front (writes g z) d a b h o k u = write-keeps S L G (d .past) (d .now) (begin S d g z) (begins S L G d g z h) a .tears .front k u
     call-front powers d a b h o k u = absurd o
 
     pub split-power : (c : Call S) (calls : List (Call S)) → NoPowerOn S (c ∷ calls) → NoPowerOn S (c ∷ []) × NoPowerOn S calls
     split-power (offers r) calls h = (tt, h)
-    split-power (drains l wd armed g z) calls h = (tt, h)
+    split-power (drains order) calls h = (tt, h)
     split-power (writes g z) calls h = (tt, h)
     split-power powers calls h = absurd h
 

@@ -17,7 +17,7 @@ use Rattle.power.specs.Claims.{ForeignLog}
 use Rattle.power.specs.Scan.{scan}
 use Rattle.power.specs.Writer.{new}
 use Rattle.power.specs.Calls.{Pass}
-use Rattle.power.specs.Life.{Device, Call, offers, drains, writes, powers, begin, powerOn, call, lives, unpowered, history, AllAssumed, FlightsFit}
+use Rattle.power.specs.Life.{ordered, Device, Call, offers, drains, writes, powers, begin, powerOn, call, lives, unpowered, history, AllAssumed, FlightsFit}
 use Rattle.power.specs.Theorem.{erased, Beginning}
 use Rattle.power.specs.Segments.{joined, starts, PlainOffers, FirstMarked, SegmentedAfter}
 use Rattle.power.specs.Torn.{tornOne, tornIn, NoPowerOn, BeginsMarked, MarkAfterTorn, TornEndsPowerOn}
@@ -68,7 +68,7 @@ module _ {Page Record Mask : Type 0} (S : PageStore Page Record Mask) (L : Lawfu
 
   past-call : (past : List (List (ℕ × Record))) (c : Call S) (d : Device S) → NoPowerOn S (c ∷ []) → call S c (withPast past d) ≡ withPast past (call S c d)
   past-call past (offers r) d o = refl
-  past-call past (drains limit wd armed g z) d o = refl
+  past-call past (drains order) d o = refl
   past-call past (writes g z) d o = refl
   past-call past powers d o = absurd o
 
@@ -76,7 +76,7 @@ module _ {Page Record Mask : Type 0} (S : PageStore Page Record Mask) (L : Lawfu
       → lives S calls (withPast past d) ≡ withPast past (lives S calls d)
   past-lives past [] d o = refl
   past-lives past (offers r ∷ calls) d o = past-lives past calls (call S (offers r) d) o
-  past-lives past (drains limit wd armed g z ∷ calls) d o = past-lives past calls (call S (drains limit wd armed g z) d) o
+  past-lives past (drains order ∷ calls) d o = past-lives past calls (call S (drains order) d) o
   past-lives past (writes g z ∷ calls) d o = past-lives past calls (call S (writes g z) d) o
   past-lives past (powers ∷ calls) d o = absurd o
 
@@ -84,7 +84,7 @@ module _ {Page Record Mask : Type 0} (S : PageStore Page Record Mask) (L : Lawfu
       → AllAssumed S calls (withPast past d)
   past-assumed past [] d o a = tt
   past-assumed past (offers r ∷ calls) d o a = (a .0, past-assumed past calls (call S (offers r) d) o (a .1))
-  past-assumed past (drains limit wd armed g z ∷ calls) d o a = (a .0, past-assumed past calls (call S (drains limit wd armed g z) d) o (a .1))
+  past-assumed past (drains order ∷ calls) d o a = (a .0, past-assumed past calls (call S (drains order) d) o (a .1))
   past-assumed past (writes g z ∷ calls) d o a = (a .0, past-assumed past calls (call S (writes g z) d) o (a .1))
   past-assumed past (powers ∷ calls) d o a = absurd o
 
@@ -264,21 +264,21 @@ module _ {Page Record Mask : Type 0} (S : PageStore Page Record Mask) (L : Lawfu
 
     plain-split : (c : Call S) (life : List (Call S)) → PlainOffers S (c ∷ life) → PlainOffers S (c ∷ []) × PlainOffers S life
     plain-split (offers r) life h = ((h .0, tt), h .1)
-    plain-split (drains limit wd armed g z) life h = (tt, h)
+    plain-split (drains order) life h = (tt, h)
     plain-split (writes g z) life h = (tt, h)
     plain-split powers life h = (tt, h)
 
     plain-more : (calls : List (Call S)) (c : Call S) → PlainOffers S calls → PlainOffers S (c ∷ []) → PlainOffers S (calls ++ c ∷ [])
     plain-more [] c h k = k
     plain-more (offers r ∷ calls) c h k = (h .0, plain-more calls c (h .1) k)
-    plain-more (drains limit wd armed g z ∷ calls) c h k = plain-more calls c h k
+    plain-more (drains order ∷ calls) c h k = plain-more calls c h k
     plain-more (writes g z ∷ calls) c h k = plain-more calls c h k
     plain-more (powers ∷ calls) c h k = plain-more calls c h k
 
     none-more : (calls : List (Call S)) (c : Call S) → NoPowerOn S calls → NoPowerOn S (c ∷ []) → NoPowerOn S (calls ++ c ∷ [])
     none-more [] c h k = k
     none-more (offers r ∷ calls) c h k = none-more calls c h k
-    none-more (drains limit wd armed g z ∷ calls) c h k = none-more calls c h k
+    none-more (drains order ∷ calls) c h k = none-more calls c h k
     none-more (writes g z ∷ calls) c h k = none-more calls c h k
     none-more (powers ∷ calls) c h k = absurd h
 
@@ -295,8 +295,8 @@ module _ {Page Record Mask : Type 0} (S : PageStore Page Record Mask) (L : Lawfu
         subst (λ (x : Device S). MarkAfterTorn S (lives S life x .log)) e
         (walk life d (since ++ offers r ∷ []) st p (assumed-append S L since (offers r ∷ []) (powerOn S d) a (rest .0, tt)) (none-more since (offers r) o tt)
         (plain-more since (offers r) plain (more .0, tt)) (subst (AllAssumed S life) (sym e) (rest .1)) (more .1))
-    walk (drains limit wd armed g q ∷ life) d since st p a o plain rest more =
-        let c : Call S = drains limit wd armed g q in
+    walk (drains order ∷ life) d since st p a o plain rest more =
+        let c : Call S = drains order in
         let e = lives-append S L since (c ∷ []) (powerOn S d) in
         subst (λ (x : Device S). MarkAfterTorn S (lives S life x .log)) e
         (walk life d (since ++ c ∷ []) st p (assumed-append S L since (c ∷ []) (powerOn S d) a (rest .0, tt)) (none-more since c o tt)
@@ -318,9 +318,9 @@ module _ {Page Record Mask : Type 0} (S : PageStore Page Record Mask) (L : Lawfu
     early (powers ∷ life) d st b w n a plain = walk life d [] st (blank-marks (d .log) b) tt tt tt (a .1) plain
     early (offers r ∷ life) d st b w n a plain =
         early life (call S (offers r) d) (call-keeps S L G (offers r) d (a .0) (inr (omega arith)) st .stands) b w n (a .1) (plain .1)
-    early (drains limit wd armed g q ∷ life) d st b w n a plain =
-        let e = drain-off S limit wd armed (begin S d g q) w in
-        early life (call S (drains limit wd armed g q) d) (call-keeps S L G (drains limit wd armed g q) d (a .0) (inr (omega arith)) st .stands)
+    early (drains order ∷ life) d st b w n a plain =
+        let e = drain-off S order (ordered S d order) w in
+        early life (call S (drains order) d) (call-keeps S L G (drains order) d (a .0) (inr (omega arith)) st .stands)
         (subst (Blanks S) (sym (ap (λ (p : Pass S). p .log) e)) b) (ap (λ (p : Pass S). p .writer .writable) e ∙ w)
         (ap (λ (p : Pass S). p .writer .waiting) e ∙ n) (a .1) plain
     early (writes g q ∷ life) d st b w n a plain =

@@ -10,7 +10,7 @@ use lib.ListN.{length, length-append}
 use Rattle.power.specs.Pages.{PageStore, Each}
 use Rattle.power.specs.Lawful.{Lawful}
 use Rattle.power.specs.Writer.{Writer, stored, stopped, withAssembler, begun, taken, takenRecord}
-use Rattle.power.specs.Calls.{Pass, Step, goes-on, ends, programIfRoom, putPage, withWriter, withQueue, logs, takeOne, takeNext, afterPut, onward}
+use Rattle.power.specs.Calls.{Order, Pass, Step, goes-on, ends, programIfRoom, putPage, withWriter, withQueue, logs, takeOne, takeNext, afterPut, onward}
 use Rattle.power.specs.Calls.{turns, onEmptyQueue, drain, unasked, endedWith, writePending}
 use Rattle.power.specs.Life.{Undecoded}
 use Rattle.power.proofs.Used.{none-some}
@@ -199,15 +199,15 @@ module _ {Page Record Mask : Type 0} (S : PageStore Page Record Mask) (L : Lawfu
         }
 
     -- drain
-    drain-by : (limit : ℕ) (wd armed : Bool) (p : Pass S) (v : Writer S) (writable : Bool) (waiting ready : Option Page) (r : Bool)
+    drain-by : (order : Order Mask) (p : Pass S) (v : Writer S) (writable : Bool) (waiting ready : Option Page) (r : Bool)
         (rows : List Record) (m : Bool) (queue : List Record)
         → Good S L G past now (withQueue S queue (withWriter S (shaped S L writable waiting ready r rows m v) p))
-        → Undecoded S ((drain S limit wd armed (withQueue S queue (withWriter S (shaped S L writable waiting ready r rows m v) p))) .unfinished)
-        → Why S L G past now ((drain S limit wd armed (withQueue S queue (withWriter S (shaped S L writable waiting ready r rows m v) p))) .logged)
+        → Undecoded S ((drain S order (withQueue S queue (withWriter S (shaped S L writable waiting ready r rows m v) p))) .unfinished)
+        → Why S L G past now ((drain S order (withQueue S queue (withWriter S (shaped S L writable waiting ready r rows m v) p))) .logged)
         → Keeps S L G past now (withQueue S queue (withWriter S (shaped S L writable waiting ready r rows m v) p))
-        (drain S limit wd armed (withQueue S queue (withWriter S (shaped S L writable waiting ready r rows m v) p)))
-    drain-by limit wd armed p v false waiting ready r rows m [] h un why = keeps-none S L G past now h
-    drain-by limit wd armed p v false waiting ready r rows m (x ∷ queue) h un why =
+        (drain S order (withQueue S queue (withWriter S (shaped S L writable waiting ready r rows m v) p)))
+    drain-by order p v false waiting ready r rows m [] h un why = keeps-none S L G past now h
+    drain-by order p v false waiting ready r rows m (x ∷ queue) h un why =
         record {
           good = record { inv = h .inv; sane = h .sane; fits = h .fits .1; small = h .small };
           adds = adds-none S L (p .log);
@@ -215,14 +215,14 @@ module _ {Page Record Mask : Type 0} (S : PageStore Page Record Mask) (L : Lawfu
               tears-as S L (withQueue S (x ∷ queue) (withWriter S (shaped S L false waiting ready r rows m v) p))
               (withQueue S queue (withWriter S (shaped S L false waiting ready r rows m v) p)) refl refl refl (λ a. a) (λ a. a);
         }
-    drain-by limit wd armed p v true waiting ready r rows m [] h un why = empty-keeps (withQueue S [] p) v waiting ready r rows m wd armed h
-    drain-by limit wd armed p v true waiting ready r rows m (x ∷ queue) h un why =
-        turns-keep wd limit (withQueue S (x ∷ queue) (withWriter S (shaped S L true waiting ready r rows m v) p)) refl h un why
+    drain-by order p v true waiting ready r rows m [] h un why = empty-keeps (withQueue S [] p) v waiting ready r rows m (order .whileDisarmed) (order .armed) h
+    drain-by order p v true waiting ready r rows m (x ∷ queue) h un why =
+        turns-keep (order .whileDisarmed) (order .limit) (withQueue S (x ∷ queue) (withWriter S (shaped S L true waiting ready r rows m v) p)) refl h un why
 
-    pub drain-keeps : (limit : ℕ) (wd armed : Bool) (p : Pass S) → Good S L G past now p → Undecoded S ((drain S limit wd armed p) .unfinished)
-        → Why S L G past now ((drain S limit wd armed p) .logged) → Keeps S L G past now p (drain S limit wd armed p)
-    drain-keeps limit wd armed p h un why =
-        drain-by limit wd armed p (p .writer) (p .writer .writable) (p .writer .waiting) (p .writer .assembler .ready)
+    pub drain-keeps : (order : Order Mask) (p : Pass S) → Good S L G past now p → Undecoded S ((drain S order p) .unfinished)
+        → Why S L G past now ((drain S order p) .logged) → Keeps S L G past now p (drain S order p)
+    drain-keeps order p h un why =
+        drain-by order p (p .writer) (p .writer .writable) (p .writer .waiting) (p .writer .assembler .ready)
         (p .writer .assembler .recording) (p .writer .assembler .rows) (p .writer .assembler .markPending) (p .queue) h un why
 
     -- write_pending

@@ -7,7 +7,7 @@ use lib.Dec.{eqb}
 use lib.ListN.{length}
 use Rattle.laws.specs.Halving.{bisect, bisecting}
 use Rattle.power.specs.Reading.{recordsOn}
-use Rattle.power.specs.Calls.{cut}
+use Rattle.power.specs.Calls.{cut, orderOf}
 use Rattle.power.specs.Life.{Call, offers, drains, powers}
 use Rattle.power.specs.Small.{SmallRecord, row, wide, flown, booted, keeps-some, keeps-all, small}
 use Rattle.power.specs.Examples.{after, armedPass}
@@ -31,14 +31,14 @@ explained? n left right =
 -- Five records, the power cut in the midst of the second page; then two more.
 old : List (Call small)
 old =
-    powers ∷ offers (flown 1) ∷ offers (flown 2) ∷ offers (flown 3) ∷ offers (flown 4) ∷ offers (flown 5) ∷ drains 16 false true 1 (cut keeps-some)
+    powers ∷ offers (flown 1) ∷ offers (flown 2) ∷ offers (flown 3) ∷ offers (flown 4) ∷ offers (flown 5) ∷ drains (orderOf 16 false true 1 (cut keeps-some))
     ∷ powers ∷ offers (flown 6) ∷ offers (flown 7) ∷ offers (flown 8) ∷ armedPass 9 ∷ powers ∷ []
 
 -- The same records on another board: in the first power-on all that was logged was written, in the next the power was cut before its first page.
 new : List (Call small)
 new =
     powers ∷ offers (flown 1) ∷ offers (flown 2) ∷ offers (flown 3) ∷ offers (flown 4) ∷ armedPass 9
-    ∷ powers ∷ offers (flown 6) ∷ offers (flown 7) ∷ offers (flown 8) ∷ drains 16 false true 0 (cut keeps-all) ∷ powers ∷ []
+    ∷ powers ∷ offers (flown 6) ∷ offers (flown 7) ∷ offers (flown 8) ∷ drains (orderOf 16 false true 0 (cut keeps-all)) ∷ powers ∷ []
 
 -- one segment for each power-on of which something is on flash
 old-segments : splitBy (starts small) (onFlash old)

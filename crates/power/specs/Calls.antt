@@ -18,6 +18,18 @@ pub data Next (Mask : Type 0) : Type 0 where
   fault : Mask → Next Mask
   cut : Mask → Next Mask
 
+-- what a drain is told: how many records it takes at most, the setting record_while_disarmed, whether the craft is armed, and its programs
+pub record Order (Mask : Type 0) : Type 0 where
+  pub limit : ℕ
+  pub whileDisarmed : Bool
+  pub armed : Bool
+  pub succeed : ℕ
+  pub next : Next Mask
+
+abbrev pub orderOf : {Mask : Type 0} → ℕ → Bool → Bool → ℕ → Next Mask → Order Mask
+orderOf limit whileDisarmed armed succeed next =
+    record { limit = limit; whileDisarmed = whileDisarmed; armed = armed; succeed = succeed; next = next }
+
 module _ {Page Record Mask : Type 0} (S : PageStore Page Record Mask) where
   -- A call under way: what is lent to it, the programs that still succeed and what the next does, pages_written so far; and, for demand 3,
   -- what it logged, the page and what stands in its place if a program did not finish, and whether the power went
@@ -202,18 +214,18 @@ module _ {Page Record Mask : Type 0} (S : PageStore Page Record Mask) where
       cond (endsFlight whileDisarmed armed (p .writer .assembler .recording)) (withWriter (withAssembler S (stopped S (p .writer .assembler)) (p .writer)) p) p
 
   -- drain on a writable log: with the queue empty nothing is programmed, not even a page that waits
-  abbrev pub drainWritable : ℕ → Bool → Bool → List Record → Pass → Pass
-  drainWritable limit whileDisarmed armed [] p = onEmptyQueue whileDisarmed armed p
-  drainWritable limit whileDisarmed armed (r ∷ queue) p = turns whileDisarmed limit p
+  abbrev pub drainWritable : Order Mask → List Record → Pass → Pass
+  drainWritable order [] p = onEmptyQueue (order .whileDisarmed) (order .armed) p
+  drainWritable order (r ∷ queue) p = turns (order .whileDisarmed) (order .limit) p
 
   -- "A pass that isn't writable drops one record."
   abbrev pub dropOne : List Record → List Record
   dropOne [] = []
   dropOne (r ∷ queue) = queue
 
-  -- drain: the limit of the pass, the setting record_while_disarmed, whether the craft is armed
-  abbrev pub drain : ℕ → Bool → Bool → Pass → Pass
-  drain limit whileDisarmed armed p = cond (p .writer .writable) (drainWritable limit whileDisarmed armed (p .queue) p) (withQueue (dropOne (p .queue)) p)
+  -- drain, by its order
+  abbrev pub drain : Order Mask → Pass → Pass
+  drain order p = cond (p .writer .writable) (drainWritable order (p .queue) p) (withQueue (dropOne (p .queue)) p)
 
   -- write_pending takes a ready page only if the log is writable; "writable" is looked at only there
   abbrev pub fetchedIfWritable : Writer S → Writer S

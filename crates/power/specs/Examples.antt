@@ -8,7 +8,7 @@ use Rattle.laws.specs.Halving.{bisect, bisecting}
 use Rattle.power.specs.Reading.{ScanAnswer, foreignAnswer, Span}
 use Rattle.power.specs.Scan.{scan, find}
 use Rattle.power.specs.Writer.{recover}
-use Rattle.power.specs.Calls.{busy, fault, cut, drain, writePending}
+use Rattle.power.specs.Calls.{busy, fault, cut, drain, writePending, orderOf}
 use Rattle.power.specs.Life.{Device, Call, offers, drains, writes, powers, begin, lives, unpowered, history}
 use Rattle.power.specs.Theorem.{erased}
 use Rattle.power.specs.Small.{SmallRecord, row, wide, flown, booted, parked, SmallPage, clear, ragged, sheet, keeps-nothing, keeps-some, keeps-all, small}
@@ -27,11 +27,11 @@ Finds life used flight found = find small ((after life) .log) used flight ≡ fo
 
 -- a pass of at most 16 records that logs armed records only
 abbrev pub armedPass : ℕ → Call small
-armedPass succeed = drains 16 false true succeed busy
+armedPass succeed = drains (orderOf 16 false true succeed busy)
 
 -- a pass that logs every record, with the craft disarmed
 abbrev pub benchPass : ℕ → Call small
-benchPass succeed = drains 16 true false succeed busy
+benchPass succeed = drains (orderOf 16 true false succeed busy)
 
 -- Two pages of one flight. The boot-session mark is on the first record, a page is programmed at the top of the turn after it was filled,
 -- and the fifth record is still a row when power goes: it is lost.
@@ -50,7 +50,7 @@ two-pages = (refl, refl, refl)
 -- A failed program that in fact finished: the writer keeps the page waiting, power goes, and the page is whole. Nothing is lost.
 failedButFinished : List (Call small)
 failedButFinished =
-    powers ∷ offers (flown 1) ∷ offers (flown 2) ∷ offers (flown 3) ∷ drains 16 false true 0 (fault keeps-nothing)
+    powers ∷ offers (flown 1) ∷ offers (flown 2) ∷ offers (flown 3) ∷ drains (orderOf 16 false true 0 (fault keeps-nothing))
     ∷ powers ∷ []
 
 failed-but-finished : Leaves failedButFinished
@@ -64,7 +64,7 @@ failed-but-finished = (refl, refl, refl)
 failedThenAgain : List (Call small)
 failedThenAgain =
     powers ∷ offers (flown 1) ∷ offers (flown 2) ∷ offers (flown 3) ∷ offers (flown 4)
-    ∷ drains 16 false true 0 (fault keeps-nothing) ∷ writes 9 busy ∷ armedPass 9 ∷ []
+    ∷ drains (orderOf 16 false true 0 (fault keeps-nothing)) ∷ writes 9 busy ∷ armedPass 9 ∷ []
 
 failed-then-again : Leaves failedThenAgain
     (sheet 1 0 (booted 1 ∷ flown 2 ∷ []) ∷ sheet 1 1 (flown 3 ∷ flown 4 ∷ []) ∷ clear ∷ clear ∷ [])
@@ -76,7 +76,7 @@ failed-then-again = (refl, refl, refl)
 -- A failed program that left the page torn: "the same page goes to the same address again, and AND makes it whole".
 madeWhole : List (Call small)
 madeWhole =
-    powers ∷ offers (flown 1) ∷ offers (flown 2) ∷ offers (flown 3) ∷ drains 16 false true 0 (fault keeps-some)
+    powers ∷ offers (flown 1) ∷ offers (flown 2) ∷ offers (flown 3) ∷ drains (orderOf 16 false true 0 (fault keeps-some))
     ∷ writes 9 busy ∷ powers ∷ []
 
 made-whole : Leaves madeWhole
@@ -89,7 +89,7 @@ made-whole = (refl, refl, refl)
 -- A cut that leaves the page blank: what was logged is lost, and the next power-on has the same page and the same flight to give.
 cutBlank : List (Call small)
 cutBlank =
-    powers ∷ offers (flown 1) ∷ offers (flown 2) ∷ offers (flown 3) ∷ drains 16 false true 0 (cut keeps-all) ∷ powers
+    powers ∷ offers (flown 1) ∷ offers (flown 2) ∷ offers (flown 3) ∷ drains (orderOf 16 false true 0 (cut keeps-all)) ∷ powers
     ∷ []
 
 cut-blank : Leaves cutBlank
@@ -103,7 +103,7 @@ cut-blank = (refl, refl, refl)
 oneTorn : List (Call small)
 oneTorn =
     powers ∷ offers (flown 1) ∷ offers (flown 2) ∷ offers (flown 3) ∷ offers (flown 4) ∷ offers (flown 5)
-    ∷ drains 16 false true 1 (cut keeps-some) ∷ powers ∷ []
+    ∷ drains (orderOf 16 false true 1 (cut keeps-some)) ∷ powers ∷ []
 
 one-torn : Leaves oneTorn
     (sheet 1 0 (booted 1 ∷ flown 2 ∷ []) ∷ ragged ∷ clear ∷ clear ∷ [])
@@ -120,7 +120,7 @@ one-torn-found = refl
 -- the new one only.
 givenAgain : List (Call small)
 givenAgain =
-    powers ∷ offers (flown 1) ∷ offers (flown 2) ∷ armedPass 9 ∷ drains 16 false false 9 busy ∷ offers (flown 3)
+    powers ∷ offers (flown 1) ∷ offers (flown 2) ∷ armedPass 9 ∷ drains (orderOf 16 false false 9 busy) ∷ offers (flown 3)
     ∷ offers (flown 4) ∷ armedPass 0 ∷ writes 0 (cut keeps-some) ∷ powers ∷ offers (flown 5) ∷ offers (flown 6)
     ∷ armedPass 9 ∷ powers ∷ []
 
@@ -140,8 +140,8 @@ given-again-found = (refl, refl, refl)
 unfoldable pub twoTorn : List (Call small)
 twoTorn =
     powers ∷ offers (flown 1) ∷ offers (flown 2) ∷ offers (flown 3) ∷ offers (flown 4)
-    ∷ drains 16 false true 1 (cut keeps-some) ∷ powers ∷ offers (flown 5) ∷ offers (flown 6)
-    ∷ drains 16 false true 0 (cut keeps-some) ∷ powers ∷ offers (flown 7) ∷ offers (flown 8) ∷ armedPass 9
+    ∷ drains (orderOf 16 false true 1 (cut keeps-some)) ∷ powers ∷ offers (flown 5) ∷ offers (flown 6)
+    ∷ drains (orderOf 16 false true 0 (cut keeps-some)) ∷ powers ∷ offers (flown 7) ∷ offers (flown 8) ∷ armedPass 9
     ∷ writes 9 busy ∷ powers ∷ []
 
 two-torn : Leaves twoTorn
@@ -154,7 +154,7 @@ two-torn = (refl, refl, refl)
 -- Page 0 torn: foreign at once.
 firstTorn : List (Call small)
 firstTorn =
-    powers ∷ offers (flown 1) ∷ offers (flown 2) ∷ offers (flown 3) ∷ drains 16 false true 0 (cut keeps-some) ∷ powers
+    powers ∷ offers (flown 1) ∷ offers (flown 2) ∷ offers (flown 3) ∷ drains (orderOf 16 false true 0 (cut keeps-some)) ∷ powers
     ∷ []
 
 first-torn : Leaves firstTorn
@@ -212,7 +212,7 @@ held-up-queue = refl
 
 -- With the queue empty drain programs nothing, though a page waits; disarmed, it ends the flight.
 emptyQueue : List (Call small)
-emptyQueue = powers ∷ offers (flown 1) ∷ offers (flown 2) ∷ armedPass 0 ∷ armedPass 9 ∷ drains 16 false false 9 busy ∷ []
+emptyQueue = powers ∷ offers (flown 1) ∷ offers (flown 2) ∷ armedPass 0 ∷ armedPass 9 ∷ drains (orderOf 16 false false 9 busy) ∷ []
 
 empty-queue : Leaves emptyQueue
     (clear ∷ clear ∷ clear ∷ clear ∷ [])
@@ -229,13 +229,13 @@ dropped-one = refl
 fiveOffered : List (Call small)
 fiveOffered = powers ∷ offers (flown 1) ∷ offers (flown 2) ∷ offers (flown 3) ∷ offers (flown 4) ∷ offers (flown 5) ∷ []
 
-reports-two : (drain small 16 false true (begin small (after fiveOffered) 9 busy) .pagesWritten ≡ 2)
-    × (drain small 16 false true (begin small (after fiveOffered) 9 busy) .writer .nextPage ≡ 2)
+reports-two : (drain small (orderOf 16 false true 9 busy) (begin small (after fiveOffered) 9 busy) .pagesWritten ≡ 2)
+    × (drain small (orderOf 16 false true 9 busy) (begin small (after fiveOffered) 9 busy) .writer .nextPage ≡ 2)
 unfolding fiveOffered bisect bisecting
 reports-two = (refl, refl)
 
-reports-cut : (drain small 16 false true (begin small (after fiveOffered) 1 (cut keeps-some)) .pagesWritten ≡ 1)
-    × (drain small 16 false true (begin small (after fiveOffered) 1 (cut keeps-some)) .powerGone ≡ true)
+reports-cut : (drain small (orderOf 16 false true 1 (cut keeps-some)) (begin small (after fiveOffered) 1 (cut keeps-some)) .pagesWritten ≡ 1)
+    × (drain small (orderOf 16 false true 1 (cut keeps-some)) (begin small (after fiveOffered) 1 (cut keeps-some)) .powerGone ≡ true)
 unfolding fiveOffered bisect bisecting
 reports-cut = (refl, refl)
 
@@ -243,7 +243,7 @@ reports-cut = (refl, refl)
 -- only before it takes one. A page of flight 1 waits after a failed program; a scan that says foreign is handed to the same writer; the
 -- page is then programmed at page 0 of a log that should have stayed as it is.
 pageWaits : List (Call small)
-pageWaits = powers ∷ offers (flown 1) ∷ offers (flown 2) ∷ offers (flown 3) ∷ drains 16 false true 0 (fault keeps-all) ∷ []
+pageWaits = powers ∷ offers (flown 1) ∷ offers (flown 2) ∷ offers (flown 3) ∷ drains (orderOf 16 false true 0 (fault keeps-all)) ∷ []
 
 notFresh : Device small
 unfolding pageWaits bisect bisecting

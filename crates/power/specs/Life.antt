@@ -2,13 +2,13 @@
 -- And the two assumptions of demand 3, as properties of a life.
 use Prim.Native.Nat.{ℕ, _<_}
 use mathlib.Core.Path.{_≡_}
-use mathlib.Core.Bool.{Bool, false}
+use mathlib.Core.Bool.{false}
 use mathlib.Core.Option.{Option, none, some}
 use mathlib.Core.Logic.{_⊎_}
 use mathlib.Core.List.{List, [], _∷_, _++_}
 use Rattle.power.specs.Pages.{PageStore, Each}
 use Rattle.power.specs.Writer.{Writer, new, recover}
-use Rattle.power.specs.Calls.{Next, Pass, drain, writePending}
+use Rattle.power.specs.Calls.{Next, Order, Pass, drain, writePending}
 use Rattle.power.specs.Scan.{scan}
 
 module _ {Page Record Mask : Type 0} (S : PageStore Page Record Mask) where
@@ -20,11 +20,11 @@ module _ {Page Record Mask : Type 0} (S : PageStore Page Record Mask) where
     pub past : List (List (ℕ × Record))
     pub now : List (ℕ × Record)
 
-  -- A call: a record offered to the queue; drain with its limit, the setting record_while_disarmed, whether the craft is armed, the programs
-  -- that succeed and what the next does; write_pending with the last two; and power-on, "each with a fresh writer set by one scan alone"
+  -- A call: a record offered to the queue; drain with its order; write_pending with the programs that succeed and what the next does; and
+  -- power-on, "each with a fresh writer set by one scan alone"
   pub data Call : Type 0 where
     offers : Record → Call
-    drains : ℕ → Bool → Bool → ℕ → Next Mask → Call
+    drains : Order Mask → Call
     writes : ℕ → Next Mask → Call
     powers : Call
 
@@ -43,6 +43,10 @@ module _ {Page Record Mask : Type 0} (S : PageStore Page Record Mask) where
         powerGone = false;
       }
 
+  -- a drain begins
+  abbrev pub ordered : Device → Order Mask → Pass S
+  ordered d order = begin d (order .succeed) (order .next)
+
   -- the device after a call of the writer
   abbrev pub afterPass : Device → Pass S → Device
   afterPass d p = record { log = p .log; writer = p .writer; queue = p .queue; past = d .past; now = d .now ++ p .logged }
@@ -54,7 +58,7 @@ module _ {Page Record Mask : Type 0} (S : PageStore Page Record Mask) where
   -- what a call does to the device
   abbrev pub call : Call → Device → Device
   call (offers r) d = record { log = d .log; writer = d .writer; queue = d .queue ++ r ∷ []; past = d .past; now = d .now }
-  call (drains limit whileDisarmed armed succeed next) d = afterPass d (drain S limit whileDisarmed armed (begin d succeed next))
+  call (drains order) d = afterPass d (drain S order (ordered d order))
   call (writes succeed next) d = afterPass d (writePending S (begin d succeed next))
   call powers d = powerOn d
 
@@ -80,7 +84,7 @@ module _ {Page Record Mask : Type 0} (S : PageStore Page Record Mask) where
   -- what is assumed of a call; and what is offered to the queue is a record
   abbrev pub Assumed : Call → Device → Type 0
   Assumed (offers r) d = S .Fits r
-  Assumed (drains limit whileDisarmed armed succeed next) d = Undecoded (drain S limit whileDisarmed armed (begin d succeed next) .unfinished)
+  Assumed (drains order) d = Undecoded (drain S order (ordered d order) .unfinished)
   Assumed (writes succeed next) d = Undecoded (writePending S (begin d succeed next) .unfinished)
   Assumed powers d = Unit {0}
 

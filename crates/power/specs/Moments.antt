@@ -11,8 +11,8 @@ use mathlib.Core.List.{List, [], _∷_}
 use lib.ListN.{length}
 use Rattle.power.specs.Pages.{PageStore, Each}
 use Rattle.power.specs.Reading.{recordsOn}
-use Rattle.power.specs.Calls.{Next, busy, fault, cut, Pass, goes-on, ends, fetched, fetchedIfWritable, withWriter, severed, putPage, takeOne}
-use Rattle.power.specs.Life.{Device, Call, offers, drains, writes, powers, begin, afterPass, powerOn, call, lives, unpowered, history}
+use Rattle.power.specs.Calls.{Next, Order, busy, fault, cut, Pass, goes-on, ends, fetched, fetchedIfWritable, withWriter, severed, putPage, takeOne}
+use Rattle.power.specs.Life.{Device, Call, offers, drains, writes, powers, begin, ordered, afterPass, powerOn, call, lives, unpowered, history}
 use Rattle.power.specs.Life.{Undecoded, Assumed, AllAssumed, FlightsFit}
 use Rattle.power.specs.Theorem.{Beginning, Holds}
 
@@ -41,11 +41,9 @@ module _ {Page Record Mask : Type 0} (S : PageStore Page Record Mask) (Allowed :
     -- the call is over; an offer, a pass that programs nothing and a power-on, which only reads, have no other moments
     over : {c : Call S} {d : Device S} → Assumed S c d → Moment c d (call S c d)
     -- inside the turns of drain
-    in-drain : {d : Device S} {m : Pass S} (limit : ℕ) (whileDisarmed armed : Bool) (succeed : ℕ) (next : Next Mask) (r : Record)
-        (queue : List Record)
-        → d .writer .writable ≡ true → d .queue ≡ r ∷ queue
-        → During whileDisarmed limit (begin S d succeed next) m → Undecoded S (m .unfinished)
-        → Moment (drains limit whileDisarmed armed succeed next) d (afterPass S d m)
+    in-drain : {d : Device S} {m : Pass S} (order : Order Mask) (r : Record) (queue : List Record) → d .writer .writable ≡ true
+        → d .queue ≡ r ∷ queue → During (order .whileDisarmed) (order .limit) (ordered S d order) m → Undecoded S (m .unfinished)
+        → Moment (drains order) d (afterPass S d m)
     -- in the midst of write_pending's program, likewise
     in-write : {d : Device S} (succeed : ℕ) (next : Next Mask) (page : Page) (keep : Mask) → Allowed keep
         → (fetchedIfWritable S (d .writer)) .waiting ≡ some page
@@ -62,14 +60,14 @@ module _ {Page Record Mask : Type 0} (S : PageStore Page Record Mask) (Allowed :
   -- a call of the writer whose numbers are at most n and whose mask is allowed
   abbrev pub NoLarger : ℕ → Call S → Type 0
   NoLarger n (offers r) = ⊥
-  NoLarger n (drains limit whileDisarmed armed succeed next) = (limit ≤ n) × (succeed ≤ n) × MaskAllowed next
+  NoLarger n (drains order) = (order .limit ≤ n) × (order .succeed ≤ n) × MaskAllowed (order .next)
   NoLarger n (writes succeed next) = (succeed ≤ n) × MaskAllowed next
   NoLarger n powers = ⊥
 
   -- what is asked of the call of a moment: that, if it is a call of the writer, and of an offer and a power-on nothing
   abbrev pub Bounded : ℕ → Call S → Type 0
   Bounded n (offers r) = Unit {0}
-  Bounded n (drains limit whileDisarmed armed succeed next) = NoLarger n (drains limit whileDisarmed armed succeed next)
+  Bounded n (drains order) = NoLarger n (drains order)
   Bounded n (writes succeed next) = NoLarger n (writes succeed next)
   Bounded n powers = Unit {0}
 

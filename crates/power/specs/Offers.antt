@@ -16,7 +16,7 @@ module _ {Page Record Mask : Type 0} (S : PageStore Page Record Mask) where
   abbrev pub acceptedFrom : List Record → List (Call S) → List (List Record)
   acceptedFrom now [] = now ∷ []
   acceptedFrom now (offers r ∷ life) = acceptedFrom (now ++ r ∷ []) life
-  acceptedFrom now (drains limit whileDisarmed armed succeed next ∷ life) = acceptedFrom now life
+  acceptedFrom now (drains order ∷ life) = acceptedFrom now life
   acceptedFrom now (writes succeed next ∷ life) = acceptedFrom now life
   acceptedFrom now (powers ∷ life) = now ∷ acceptedFrom [] life
 
@@ -27,7 +27,7 @@ module _ {Page Record Mask : Type 0} (S : PageStore Page Record Mask) where
   abbrev pub SettingIs : Bool → List (Call S) → Type 0
   SettingIs whileDisarmed [] = Unit {0}
   SettingIs whileDisarmed (offers r ∷ life) = SettingIs whileDisarmed life
-  SettingIs whileDisarmed (drains limit setting armed succeed next ∷ life) = (setting ≡ whileDisarmed) × SettingIs whileDisarmed life
+  SettingIs whileDisarmed (drains order ∷ life) = (order .whileDisarmed ≡ whileDisarmed) × SettingIs whileDisarmed life
   SettingIs whileDisarmed (writes succeed next ∷ life) = SettingIs whileDisarmed life
   SettingIs whileDisarmed (powers ∷ life) = SettingIs whileDisarmed life
 
@@ -35,7 +35,7 @@ module _ {Page Record Mask : Type 0} (S : PageStore Page Record Mask) where
   abbrev pub OffersOf : S .Edition → List (Call S) → Type 0
   OffersOf e [] = Unit {0}
   OffersOf e (offers r ∷ life) = (S .edition r ≡ e) × OffersOf e life
-  OffersOf e (drains limit whileDisarmed armed succeed next ∷ life) = OffersOf e life
+  OffersOf e (drains order ∷ life) = OffersOf e life
   OffersOf e (writes succeed next ∷ life) = OffersOf e life
   OffersOf e (powers ∷ life) = OffersOf e life
 
@@ -69,7 +69,7 @@ module _ {Page Record Mask : Type 0} (S : PageStore Page Record Mask) where
   -- a record is offered only while the log may be written: not after a power cut, and not on a log that is foreign or full
   abbrev pub Heeded : Call S → Device S → Type 0
   Heeded (offers r) d = d .writer .writable ≡ true
-  Heeded (drains limit whileDisarmed armed succeed next) d = Unit {0}
+  Heeded (drains order) d = Unit {0}
   Heeded (writes succeed next) d = Unit {0}
   Heeded powers d = Unit {0}
 

@@ -8,8 +8,8 @@ use mathlib.Core.Option.{Option, none, some}
 use mathlib.Core.List.{List, [], _∷_, _++_}
 use Rattle.power.specs.Pages.{PageStore}
 use Rattle.power.specs.Writer.{Writer}
-use Rattle.power.specs.Calls.{Next, Pass, logs, drain, writePending}
-use Rattle.power.specs.Life.{Device, Call, begin, lives, unpowered}
+use Rattle.power.specs.Calls.{Next, Order, Pass, logs, drain, writePending}
+use Rattle.power.specs.Life.{Device, Call, begin, ordered, lives, unpowered}
 
 module _ {Page Record Mask : Type 0} (S : PageStore Page Record Mask) where
   -- "a made-up pages_written, which must equal the rise of next_page or, in a cut, the programs that succeeded"
@@ -20,8 +20,7 @@ module _ {Page Record Mask : Type 0} (S : PageStore Page Record Mask) where
   -- so it is in drain
   abbrev pub DrainCounts : Type 0
   DrainCounts =
-      (d : Device S) (limit : ℕ) (whileDisarmed armed : Bool) (succeed : ℕ) (next : Next Mask)
-      → PagesCounted succeed (begin S d succeed next) (drain S limit whileDisarmed armed (begin S d succeed next))
+      (d : Device S) (order : Order Mask) → PagesCounted (order .succeed) (ordered S d order) (drain S order (ordered S d order))
 
   -- and in write_pending
   abbrev pub WriteCounts : Type 0
@@ -74,15 +73,13 @@ module _ {Page Record Mask : Type 0} (S : PageStore Page Record Mask) where
   -- so it is in drain on a writable log
   abbrev pub DrainLogs : Type 0
   DrainLogs =
-      (d : Device S) (limit : ℕ) (whileDisarmed armed : Bool) (succeed : ℕ) (next : Next Mask) → d .writer .writable ≡ true
-      → MarksSettled (d .writer)
-      → LoggedExactly whileDisarmed (begin S d succeed next) (drain S limit whileDisarmed armed (begin S d succeed next))
+      (d : Device S) (order : Order Mask) → d .writer .writable ≡ true → MarksSettled (d .writer)
+      → LoggedExactly (order .whileDisarmed) (ordered S d order) (drain S order (ordered S d order))
 
   -- on a log that isn't writable drain logs nothing
   abbrev pub UnwritableLogsNothing : Type 0
   UnwritableLogsNothing =
-      (d : Device S) (limit : ℕ) (whileDisarmed armed : Bool) (succeed : ℕ) (next : Next Mask) → d .writer .writable ≡ false
-      → drain S limit whileDisarmed armed (begin S d succeed next) .logged ≡ []
+      (d : Device S) (order : Order Mask) → d .writer .writable ≡ false → drain S order (ordered S d order) .logged ≡ []
 
   -- and write_pending never logs anything
   abbrev pub WriteLogsNothing : Type 0

@@ -66,7 +66,7 @@ module _ {Page Record Mask : Type 0} (S : PageStore Page Record Mask) where
   abbrev pub PlainOffers : List (Call S) → Type 0
   PlainOffers [] = Unit {0}
   PlainOffers (offers r ∷ life) = (S .hasMark r ≡ false) × PlainOffers life
-  PlainOffers (drains limit whileDisarmed armed succeed next ∷ life) = PlainOffers life
+  PlainOffers (drains order ∷ life) = PlainOffers life
   PlainOffers (writes succeed next ∷ life) = PlainOffers life
   PlainOffers (powers ∷ life) = PlainOffers life
 

@@ -28,7 +28,7 @@ module _ {Page Record Mask : Type 0} (S : PageStore Page Record Mask) where
   -- a call spares it; and what is offered to the queue is a record
   abbrev pub CallSpares : (Mask → Type 0) → Call S → Type 0
   CallSpares Spares (offers r) = S .Fits r
-  CallSpares Spares (drains limit whileDisarmed armed succeed next) = NextSpares Spares next
+  CallSpares Spares (drains order) = NextSpares Spares (order .next)
   CallSpares Spares (writes succeed next) = NextSpares Spares next
   CallSpares Spares powers = Unit {0}
 
@@ -36,8 +36,7 @@ module _ {Page Record Mask : Type 0} (S : PageStore Page Record Mask) where
   abbrev pub LifeSpares : {K : Type 0} → (K → Mask → Type 0) → K → List (Call S) → Type 0
   LifeSpares Spares k [] = Unit {0}
   LifeSpares Spares k (offers r ∷ life) = CallSpares (Spares k) (offers r) × LifeSpares Spares k life
-  LifeSpares Spares k (drains limit whileDisarmed armed succeed next ∷ life) =
-      CallSpares (Spares k) (drains limit whileDisarmed armed succeed next) × LifeSpares Spares k life
+  LifeSpares Spares k (drains order ∷ life) = CallSpares (Spares k) (drains order) × LifeSpares Spares k life
   LifeSpares Spares k (writes succeed next ∷ life) = CallSpares (Spares k) (writes succeed next) × LifeSpares Spares k life
   LifeSpares {K} Spares k (powers ∷ life) = (chosen : K) × LifeSpares Spares chosen life
 

@@ -9,7 +9,7 @@ use mathlib.Core.List.{List, [], _∷_}
 use Rattle.power.specs.Pages.{Decoded, PageStore}
 use Rattle.power.specs.Reading.{Whole, Torn, pageAt}
 use Rattle.power.specs.Calls.{drain, writePending}
-use Rattle.power.specs.Life.{Device, Call, offers, drains, writes, powers, begin, powerOn, call, lives, unpowered, AllAssumed, Assumed}
+use Rattle.power.specs.Life.{Device, Call, offers, drains, writes, powers, begin, ordered, powerOn, call, lives, unpowered, AllAssumed, Assumed}
 use Rattle.power.specs.Theorem.{erased, after}
 use Rattle.power.specs.Segments.{Board}
 
@@ -29,14 +29,14 @@ module _ {Page Record Mask : Type 0} (S : PageStore Page Record Mask) where
   abbrev pub NoPowerOn : List (Call S) → Type 0
   NoPowerOn [] = Unit {0}
   NoPowerOn (offers r ∷ calls) = NoPowerOn calls
-  NoPowerOn (drains limit whileDisarmed armed succeed next ∷ calls) = NoPowerOn calls
+  NoPowerOn (drains order ∷ calls) = NoPowerOn calls
   NoPowerOn (writes succeed next ∷ calls) = NoPowerOn calls
   NoPowerOn (powers ∷ calls) = ⊥
 
   -- what the program that a call left unfinished should have made and what it left in its place, if there was one: it was cut, or it failed
   abbrev pub unfinishedIn : Call S → Device S → Option (Page × Page)
   unfinishedIn (offers r) d = none
-  unfinishedIn (drains limit whileDisarmed armed succeed next) d = drain S limit whileDisarmed armed (begin S d succeed next) .unfinished
+  unfinishedIn (drains order) d = drain S order (ordered S d order) .unfinished
   unfinishedIn (writes succeed next) d = writePending S (begin S d succeed next) .unfinished
   unfinishedIn powers d = none
 
