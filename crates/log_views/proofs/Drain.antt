@@ -167,12 +167,14 @@ module _ (pages : ℕ) (order : DrainOrder) (keep : List ℕ) where
           }
       writable-is (suc n) e =
           let t = turns-is (order .limit) p image space s on l u in
+          let as-many : asOrder order keep .limit ≡ order .limit = omega arith in
           let away = ne-eqb (p .queue .held) 0 (λ z. omega arith) in
           record {
             logged = t .logged;
             unfinished = t .unfinished;
             same =
                 ap (λ (queue : List FlightRecord). Theory.drainWritable real (asOrder order keep) queue view) (one-held (p .queue) n e)
+                ∙ ap (λ (limit : ℕ). Theory.turns real (order .«record_while_disarmed») limit view) as-many
                 ∙ t .same
                 ∙ ap₂ (λ (x : Pass) (m : List ℕ). asPass pages (order .next) keep x m (t .logged) (t .unfinished))
                 (sym (cond-false (eqb (p .queue .held) 0) _ _ away)) (sym (cond-false (eqb (p .queue .held) 0) _ _ away));
