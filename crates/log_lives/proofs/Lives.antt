@@ -37,7 +37,8 @@ use Rattle.log_writer.proofs.Checks.{passed-log}
 use Rattle.log_laws.proofs.OnlyLog.{only-same, only-then, has-room, drain-only-log, write-only-log}
 use Rattle.log_pages.specs.Store.{real, pagesOf}
 use Rattle.log_pages.proofs.Real.{real-lawful}
-use Rattle.log_pages.proofs.Scan.{NoFaults, scan-is-theory}
+use Rattle.log_pages.proofs.Scan.{scan-is-theory}
+use Rattle.records.proofs.Readings.{NoFaults}
 use Rattle.log_views.specs.Views.{asWriter, asNext, asPass}
 use Rattle.log_views.proofs.Drain.{drain-is}
 use Rattle.log_views.proofs.Write.{write-is}

@@ -24,8 +24,9 @@ use Rattle.store.proofs.Checks.{on-lengths}
 use Rattle.blackbox.specs.Flight.{nextFlight}
 use Rattle.blackbox.specs.Page.{blankPage, decoded}
 use Rattle.blackbox.specs.declared.PageMetadata.{PageMetadata}
-use Rattle.records.specs.Pages.{pageIn, readPage, allBlank, blankAt, flightIn, ownAt, orElse, pageFlight}
+use Rattle.records.specs.Pages.{pageIn, allBlank, sayingOf, reading, blankAt, flightIn, orElse, pageFlight}
 use Rattle.records.specs.Scan as Scan
+use Rattle.records.proofs.Readings.{NoFaults, blank-bytes, flight-said, blank-is, own-is}
 use Rattle.records.specs.declared.PageFlight.{PageFlight}
 use Rattle.records.specs.declared.Scan as Declared
 use Rattle.log_pages.specs.Store.{contentIn, content, real, pagesFrom, pagesOf, asScan}
@@ -47,18 +48,6 @@ pages-at image (suc n) i (suc k) h = pages-at image n (suc i) k (omega arith) �
 pub page-at : (image : List ℕ) (n i : ℕ) → i < n → getD (pagesOf n image) i blankPage ≡ pageIn image i
 page-at image n i h = let z : 0 + i ≡ i = omega arith in pages-at image n 0 i h ∙ ap (pageIn image) z
 
--- a page that is blank by its bytes is the blank page
-blank-bytes : (n : ℕ) (p : List ℕ) → length p ≡ n → allBlank p ≡ true → p ≡ replicate n 255
-unfolding allBlank
-blank-bytes zero [] l e = refl
-blank-bytes zero (b ∷ p) l e = absurd (omega arith)
-blank-bytes (suc n) [] l e = absurd (omega arith)
-blank-bytes (suc n) (b ∷ p) l e = go (eqb b 255) refl e (λ r. blank-bytes n p (omega arith) r)
-  where
-    go : (q : Bool) → eqb b 255 ≡ q → cond q (allBlank p) false ≡ true → (allBlank p ≡ true → p ≡ replicate n 255) → b ∷ p ≡ 255 ∷ replicate n 255
-    go true w r k = let x = eqb-true b 255 w in let y = k r in cc
-    go false w r k = absurd (let z : _≡_ {A = ℕ} 0 1 = cc in omega arith)
-
 bytes-blank : (n : ℕ) → allBlank (replicate n 255) ≡ true
 unfolding allBlank
 bytes-blank zero = refl
@@ -78,10 +67,6 @@ told-blank p l = go (allBlank p) (sameBytes p blankPage) refl refl
 
 -- ---- reading without faults
 
--- no read has a fault
-abbrev pub NoFaults : List ℕ → Type 0
-NoFaults faults = (i : ℕ) → getD faults i 0 ≡ 0
-
 -- a flight as the theory has it
 abbrev pub asFlight : Option PageFlight → Option ℕ
 asFlight none = none
@@ -99,13 +84,13 @@ orOwn (some f) other = some f
 
 -- what the pages of an image say of their flights
 abbrev pub ownIn : List ℕ → ℕ → Option PageFlight
-ownIn image i = flightIn (decoded (pageIn image i))
+ownIn image i = flightIn (reading (pageIn image i))
 
 abbrev pub flightInLog : List ℕ → ℕ → Option PageFlight
 flightInLog image zero = ownIn image zero
 flightInLog image (suc i) = orOwn (ownIn image (suc i)) (ownIn image i)
 
-same-flight : (p : List ℕ) (d : Answer PageMetadata) → asFlight (flightIn d) ≡ Theory-scan.flightOf real (contentIn p d)
+same-flight : (p : List ℕ) (d : Answer PageMetadata) → asFlight (flightIn (sayingOf d)) ≡ Theory-scan.flightOf real (contentIn p d)
 same-flight p (gives m) = refl
 same-flight p (refuses number fault) = refl
 
@@ -113,7 +98,7 @@ module _ (image : List ℕ) (n : ℕ) where
   own-says : (i : ℕ) → i < n → asFlight (ownIn image i) ≡ Theory-scan.ownFlight real (pagesOf n image) i
   unfolding content
   own-says i h =
-      same-flight (pageIn image i) (decoded (pageIn image i)) ∙ ap (λ (p : List ℕ). Theory-scan.flightOf real (content p)) (sym (page-at image n i h))
+      ap asFlight (flight-said (pageIn image i)) ∙ same-flight (pageIn image i) (decoded (pageIn image i)) ∙ ap (λ (p : List ℕ). Theory-scan.flightOf real (content p)) (sym (page-at image n i h))
 
   or-says : (a b : Option PageFlight) → asFlight (orOwn a b) ≡ Theory-scan.orElse real (asFlight a) (asFlight b)
   or-says none b = refl
@@ -126,14 +111,6 @@ module _ (image : List ℕ) (n : ℕ) where
       ∙ ap₂ (Theory-scan.orElse real) (own-says (suc i) h) (own-says i (omega arith))
 
 module _ (image faults : List ℕ) (clear : NoFaults faults) where
-  read-well : (i : ℕ) → readPage image faults i ≡ gives (pageIn image i)
-  unfolding readPage readOf
-  read-well i = rw (eq-eqb (faultAt faults (pageAt i)) 0 (clear (pageAt i / 256))) refl
-
-  own-is : (i : ℕ) → ownAt image faults i ≡ gives (ownIn image i)
-  unfolding ownAt
-  own-is i = rw (read-well i) refl
-
   first-is : (o : Option PageFlight) → orElse o (gives none) ≡ gives o
   first-is none = refl
   first-is (some f) = refl
@@ -144,25 +121,24 @@ module _ (image faults : List ℕ) (clear : NoFaults faults) where
 
   pub flight-is : (i : ℕ) → pageFlight image faults i ≡ gives (flightInLog image i)
   unfolding pageFlight
-  flight-is zero = rw (own-is 0) (first-is (ownIn image 0))
+  flight-is zero = rw (own-is image faults clear 0) (first-is (ownIn image 0))
   flight-is (suc i) =
       let z : suc i - 1 ≡ i = omega arith in
-      rw (own-is (suc i), ne-eqb (suc i) 0 (λ e. omega arith), z, own-is i) (next-is (ownIn image (suc i)) (ownIn image i))
+      rw (own-is image faults clear (suc i), ne-eqb (suc i) 0 (λ e. omega arith), z, own-is image faults clear i) (next-is (ownIn image (suc i)) (ownIn image i))
 
   module _ (n : ℕ) (long : pageAt n ≤ length image) where
     page-long : (i : ℕ) → i < n → length (pageIn image i) ≡ 256
     page-long i h = length-take-le 256 (drop (pageAt i) image) (omega (arith, length-drop (pageAt i) image))
 
-    blank-is : (i : ℕ) → i < n → blankAt image faults i ≡ gives (isBlankPage (Theory.pageAt real (pagesOf n image) i))
-    unfolding blankAt
-    blank-is i h =
-        rw (read-well i)
-        (ap {B = Answer Bool} gives (told-blank (pageIn image i) (page-long i h) ∙ ap (isBlankPage) (sym (page-at image n i h))))
+    says-blank : (i : ℕ) → i < n → blankAt image faults i ≡ gives (isBlankPage (Theory.pageAt real (pagesOf n image) i))
+    says-blank i h =
+        blank-is image faults clear i
+        ∙ ap {B = Answer Bool} gives (told-blank (pageIn image i) (page-long i h) ∙ ap (isBlankPage) (sym (page-at image n i h)))
 
     used-is : Scan.usedPages n image faults ≡ gives (Theory-scan.usedPages real (pagesOf n image))
     unfolding Scan.usedPages
     used-is =
-        halving-plain n (blankAt image faults) (λ i. isBlankPage (Theory.pageAt real (pagesOf n image) i)) blank-is
+        halving-plain n (blankAt image faults) (λ i. isBlankPage (Theory.pageAt real (pagesOf n image) i)) says-blank
         ∙ ap {B = Answer ℕ} (λ (k : ℕ). gives (bisecting (λ i. isBlankPage (Theory.pageAt real (pagesOf n image) i)) k)) (sym (length-pages image 0 n))
 
     -- the verdict, from what the first and the last used page say
@@ -183,7 +159,7 @@ module _ (image faults : List ℕ) (clear : NoFaults faults) where
     verdict-is zero h = refl
     verdict-is (suc last) h =
         let z : suc last - 1 ≡ last = omega arith in
-        rw (ne-eqb (suc last) 0 (λ e. omega arith), own-is 0, z, flight-is last)
+        rw (ne-eqb (suc last) 0 (λ e. omega arith), own-is image faults clear 0, z, flight-is last)
         (chosen-is (ownIn image 0) (Scan.appending n (suc last) (flightInLog image last))
         ∙ ap {B = Answer Declared.Scan} gives
         (ap (chosen (ownIn image 0)) (sym (appending-is (suc last) (flightInLog image last)))

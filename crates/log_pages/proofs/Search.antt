@@ -22,7 +22,8 @@ use Rattle.records.specs.declared.PageFlight.{PageFlight}
 use Rattle.log_search.specs.Search.{orCorrupt, flightId, reaches, lowerBound, endOf, foundFrom, found, foundFlight}
 use Rattle.log_search.proofs.Bounds.{reaches-is}
 use Rattle.log_pages.specs.Store.{real, pagesOf, asFound}
-use Rattle.log_pages.proofs.Scan.{NoFaults, asFlight, flightInLog, flight-says, flight-is}
+use Rattle.records.proofs.Readings.{NoFaults}
+use Rattle.log_pages.proofs.Scan.{asFlight, flightInLog, flight-says, flight-is}
 
 one-flight : (o : Option PageFlight) (g : ℕ) → asFlight o ≡ some g → orCorrupt o ≡ gives g
 one-flight none g e = absurd (let z : _≡_ {A = ℕ} 0 1 = cc in omega arith)

@@ -138,11 +138,11 @@ decoding page =
 
 module _ (image faults : List ℕ) where
   blank : (i : ℕ) → Proper (blankAt image faults i)
-  unfolding blankAt readPage
+  unfolding blankAt readingAt readPage
   blank i = call Anything Anything _ _ (reading Anything faults _ _ tt) (λ page _. any _)
 
   own : (i : ℕ) → Proper (ownAt image faults i)
-  unfolding ownAt readPage
+  unfolding ownAt readingAt readPage
   own i = call Anything Anything _ _ (reading Anything faults _ _ tt) (λ page _. any _)
 
   else : (o : Option PageFlight) (other : Answer (Option PageFlight)) → Proper other → Proper (orElse o other)
