@@ -20,7 +20,7 @@ use Rattle.crc32.specs.Crc.{crc32Of}
 use Rattle.blackbox.specs.Record.{recordOf, recordDecoded}
 use Rattle.blackbox.specs.Page.{magic, metadata, decoded, decodedAs, encoded, encodedPage, recordFromPage, recordsIn}
 use Rattle.blackbox.specs.declared.PageMetadata.{PageMetadata}
-use Rattle.records.specs.Pages.{readPage, blankAt, flightIn, ownAt, orElse, pageFlight, flightOfPage}
+use Rattle.records.specs.Pages.{readingAt, readPage, blankAt, flightIn, ownAt, orElse, pageFlight, flightOfPage}
 use Rattle.records.specs.Scan.{usedPages, appending, ifBegun, verdict, scanPages, scanned}
 use Rattle.records.specs.declared.PageFlight.{PageFlight}
 use Rattle.records.specs.declared.Scan.{Scan}
@@ -137,13 +137,17 @@ decoding page =
     (any (metadata (u32At page 244) (u32At page 248) (getD page 243 0)))))))
 
 module _ (image faults : List ℕ) where
+  page : (i : ℕ) → Proper (readingAt image faults i)
+  unfolding readingAt readPage
+  page i = call Anything Anything _ _ (reading Anything faults _ _ tt) (λ page _. any _)
+
   blank : (i : ℕ) → Proper (blankAt image faults i)
-  unfolding blankAt readingAt readPage
-  blank i = call Anything Anything _ _ (reading Anything faults _ _ tt) (λ page _. any _)
+  unfolding blankAt
+  blank i = call Anything Anything _ _ (page i) (λ r _. any _)
 
   own : (i : ℕ) → Proper (ownAt image faults i)
-  unfolding ownAt readingAt readPage
-  own i = call Anything Anything _ _ (reading Anything faults _ _ tt) (λ page _. any _)
+  unfolding ownAt
+  own i = call Anything Anything _ _ (page i) (λ r _. any _)
 
   else : (o : Option PageFlight) (other : Answer (Option PageFlight)) → Proper other → Proper (orElse o other)
   else none other h = h
