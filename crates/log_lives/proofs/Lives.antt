@@ -15,7 +15,7 @@ use Rattle.power.specs.Scan as Theory-scan
 use Rattle.power.specs.Life.{Call, Device}
 use Rattle.power.specs.Life as Life
 use Rattle.layout.specs.Layout.{logStart, validCapacity, pagesIn}
-use Rattle.store.specs.Store.{leaves}
+use Rattle.store.specs.Store.{noFaults, leaves}
 use Rattle.store.specs.Laws.{OnlyAt}
 use Rattle.power.proofs.Moments.{lives-append}
 use Rattle.blackbox.specs.declared.FlightRecord.{FlightRecord}
@@ -44,7 +44,7 @@ use Rattle.log_views.proofs.Drain.{drain-is}
 use Rattle.log_views.proofs.Write.{write-is}
 use Rattle.script.specs.Script.{Operation, offers, drains, writes, powers, recovers, resets, flushes}
 use Rattle.script.specs.Laws.{Writes, EachWrites}
-use Rattle.rig.specs.Rig.{bench, draining, writing, powering, noFaults, played, imageAfter, plays, playsImage}
+use Rattle.rig.specs.Rig.{bench, draining, writing, powering, played, imageAfter, plays, playsImage}
 use Rattle.rig.specs.Laws.{SoundBench}
 use Rattle.rig.specs.declared.Bench.{Bench}
 use Rattle.rig.proofs.Laws.{operation-keeps}

@@ -22,7 +22,7 @@ use Rattle.power.proofs.Moments.{lives-append}
 use Rattle.power.proofs.Editions.{one-edition-from-erased}
 use Rattle.layout.specs.Layout.{validCapacity, pagesIn}
 use Rattle.layout.proofs.Capacity.{valid}
-use Rattle.store.specs.Store.{leaves}
+use Rattle.store.specs.Store.{noFaults, leaves}
 use Rattle.store.proofs.Checks.{on-image}
 use Rattle.assembler.specs.Assembler as Assembler
 use Rattle.queue.specs.Queue.{empty}
@@ -37,7 +37,7 @@ use Rattle.log_pages.proofs.Search.{find-is-theory}
 use Rattle.script.specs.Script.{Operation, offers, drains, writes, powers, recovers, resets, flushes, rowsIn, operations}
 use Rattle.script.specs.Laws.{EachWrites}
 use Rattle.script.proofs.Laws.{rows-fit}
-use Rattle.rig.specs.Rig.{unpowered, noFaults, played, imageAfter, plays, playsImage, onScript, afterPlay}
+use Rattle.rig.specs.Rig.{unpowered, played, imageAfter, plays, playsImage, onScript, afterPlay}
 use Rattle.rig.specs.declared.Bench.{Bench}
 use Rattle.rig.proofs.Laws.{unpowered-sound}
 use Rattle.log_lives.specs.Lives.{takes, drainOf, writeOf, callsOf, lifeFrom, lifeOf, lifeAfter, deviceBefore, deviceAfter, NoneDecodes}

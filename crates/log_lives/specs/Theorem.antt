@@ -24,6 +24,7 @@ use Rattle.words.specs.Words.{Bytes}
 use Rattle.layout.specs.Layout.{logStart, validCapacity, pagesIn}
 use Rattle.store.specs.Laws.{OnlyAt}
 use Rattle.blackbox.specs.declared.FlightRecord.{FlightRecord}
+use Rattle.store.specs.Store.{noFaults}
 use Rattle.records.specs.Scan.{scanned}
 use Rattle.records.specs.declared.Scan.{Scan}
 use Rattle.queue.specs.Queue.{recordsHeld}
@@ -34,7 +35,7 @@ use Rattle.log_writer.specs.declared.NextProgram.{NextProgram}
 use Rattle.log_pages.specs.Store.{real, pagesOf, asScan, asFound}
 use Rattle.log_views.specs.Views.{asWriter}
 use Rattle.script.specs.Script.{Operation, offers, drains, writes, powers, recovers, resets, flushes, isScript, rowsIn, operations}
-use Rattle.rig.specs.Rig.{unpowered, draining, writing, noFaults, played, imageAfter, plays, afterPlay}
+use Rattle.rig.specs.Rig.{unpowered, draining, writing, played, imageAfter, plays, afterPlay}
 use Rattle.rig.specs.declared.Bench.{Bench}
 use Rattle.log_lives.specs.Lives.{EachOfLife, lifeOf, deviceBefore, deviceAfter, NoneDecodes}
 

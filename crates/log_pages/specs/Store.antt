@@ -13,7 +13,7 @@ use Rattle.power.specs.Reading.{ScanAnswer, Span}
 use Rattle.words.specs.Words.{sameBytes}
 use Rattle.store.specs.Store.{programmedBytes}
 use Rattle.blackbox.specs.Flight.{nextFlight}
-use Rattle.blackbox.specs.Record.{Fit}
+use Rattle.blackbox.specs.Record.{Fit, isArmed}
 use Rattle.blackbox.specs.Page.{blankPage, encodedPage, decoded, recordsIn}
 use Rattle.blackbox.specs.declared.FlightRecord.{FlightRecord}
 use Rattle.blackbox.specs.declared.PageMetadata.{PageMetadata}
@@ -32,10 +32,6 @@ contentIn page (refuses number fault) = none
 -- what a page says, if it decodes
 unfoldable pub content : List ℕ → Option (Decoded FlightRecord)
 content page = contentIn page (decoded page)
-
--- bit 0 of a record's flags: armed
-unfoldable pub isArmed : FlightRecord → Bool
-isArmed r = eqb (r .flags % 2) 1
 
 -- "boot-session flag (bit 2)"
 unfoldable pub hasBootBit : FlightRecord → Bool

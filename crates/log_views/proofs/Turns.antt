@@ -33,8 +33,7 @@ use Rattle.log_writer.specs.declared.Pass.{Pass}
 use Rattle.log_writer.specs.declared.DrainOrder.{DrainOrder}
 use Rattle.log_writer.specs.declared.NextProgram.{NextProgram}
 use Rattle.log_writer.specs.declared.NextProgram.the-variants.{Busy, Fault, Cut}
-use Rattle.log_pages.specs.Store.{isArmed, pagesOf}
-use Rattle.log_pages.specs.Store.{real}
+use Rattle.log_pages.specs.Store.{pagesOf, real}
 use Rattle.log_pages.proofs.Scan.{length-pages}
 use Rattle.log_views.specs.Views.{asWriter, asQueue, asNext, asPass}
 use Rattle.log_views.proofs.Images.{pages-programmed}
@@ -53,7 +52,7 @@ stepped false p = Theory.Step.ends p
 
 -- whether a record goes to the log
 pub logs-is : (order : DrainOrder) (r : FlightRecord) → logs order r ≡ Theory.logs real (order .«record_while_disarmed») r
-unfolding logs isArmed
+unfolding logs
 logs-is order r = refl
 
 module _ (pages : ℕ) (next : NextProgram) (keep : List ℕ) where

@@ -4,6 +4,7 @@ use mathlib.Core.Path.{_≡_, sym, subst}
 use mathlib.Core.Bool.{true}
 use mathlib.Core.List.{List}
 use Rattle.laws.specs.Answers.{Answer, gives, refuses}
+use Rattle.store.specs.Store.{noFaults}
 use Rattle.records.specs.Scan.{scanned}
 use Rattle.records.specs.declared.Scan.{Scan}
 use Rattle.queue.proofs.Laws.{new-is-sound, offer-keeps}
@@ -11,7 +12,7 @@ use Rattle.log_state.specs.Writer.{fresh}
 use Rattle.log_state.proofs.Sound.{fresh-sound, recovered-sound, flushed-sound}
 use Rattle.log_writer.proofs.Laws.{drain-keeps, write-keeps}
 use Rattle.script.specs.Script.{Operation, offers, drains, writes, powers, recovers, resets, flushes}
-use Rattle.rig.specs.Rig.{unpowered, played, powering, noFaults}
+use Rattle.rig.specs.Rig.{unpowered, played, powering}
 use Rattle.rig.specs.declared.Bench.{Bench}
 use Rattle.rig.specs.declared.Played.{Played}
 use Rattle.rig.specs.Laws.{SoundBench, UnpoweredIsSound, OperationKeeps}

@@ -9,7 +9,7 @@ use Rattle.laws.specs.Answers.{gives, toldDone}
 use Rattle.laws.specs.declared.Refusal.{Refusal}
 use Rattle.words.specs.Words.{u32At}
 use Rattle.layout.specs.Layout.{pagesIn}
-use Rattle.store.specs.Store.{part, onImage, onLengths}
+use Rattle.store.specs.Store.{noFaults, part, onImage, onLengths}
 use Rattle.laws.specs.declared.DoneAnswer.{DoneAnswer}
 use Rattle.laws.specs.declared.DoneAnswer.the-variants as Done
 use Rattle.store.proofs.Checks.{on-lengths, image-refused, image-held}
@@ -33,7 +33,7 @@ use Rattle.log_writer.specs.declared.DrainAnswer.{DrainAnswer}
 use Rattle.log_writer.specs.declared.WriteAnswer.{WriteAnswer}
 use Rattle.script.specs.Script.{Operation, flagByte, flagAt, nextIn, orderIn, operationIn}
 use Rattle.script.proofs.Rows.{record-in, says-offer, says-drain, says-write, says-power, says-recover, says-reset, says-flush}
-use Rattle.rig.specs.Rig.{bench, unpowered, playing, offering, draining, writing, powering, flushing, noFaults, played, imageAfter}
+use Rattle.rig.specs.Rig.{bench, unpowered, playing, offering, draining, writing, powering, flushing, played, imageAfter}
 use Rattle.rig.specs.declared.Bench.{Bench}
 use Rattle.rig.specs.declared.Played.{Played}
 

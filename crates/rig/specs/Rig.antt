@@ -5,11 +5,11 @@ use mathlib.Core.Bool.{true, cond}
 use mathlib.Core.List.{List, [], _∷_, _++_}
 use mathlib.Core.Option.{Option, none, some}
 use lib.Dec.{eqb}
-use lib.ListN.{length, replicate}
+use lib.ListN.{length}
 use Rattle.laws.specs.Refusals.{badLength}
 use Rattle.laws.specs.Answers.{Answer, gives, refuses, must}
 use Rattle.words.specs.Words.{leBytes}
-use Rattle.store.specs.Store.{onImage, leaves}
+use Rattle.store.specs.Store.{noFaults, onImage, leaves}
 use Rattle.records.specs.Scan.{scanned}
 use Rattle.records.specs.declared.Scan.{Scan}
 use Rattle.assembler.specs.Assembler.{unfinishedFlight}
@@ -74,10 +74,6 @@ powering (refuses number fault) = playing fresh empty number 0 0 0
 -- a flush's outcome is 1 if it flushes
 abbrev pub flushing : RecordQueue → FlushAnswer → Played
 flushing q answer = playing (answer .writer) q (flagByte (answer .flush)) 0 0 0
-
--- "reads have no faults": one fault byte of 0 for each 256 bytes
-abbrev pub noFaults : ℕ → List ℕ
-noFaults capacity = replicate (capacity / 256) 0
 
 -- what an operation does to the bench
 unfoldable pub played : ℕ → Operation → Bench → List ℕ → Played

@@ -12,6 +12,10 @@ use Rattle.laws.specs.Answers.{Answer, gives, refuses, must, then}
 use Rattle.layout.specs.Layout.{validCapacity}
 use Rattle.words.specs.Words.{placed}
 
+-- "reads have no faults": one fault byte of 0 for each 256 bytes
+abbrev pub noFaults : ℕ → List ℕ
+noFaults capacity = replicate (capacity / 256) 0
+
 -- "Order: 5, then 17": "image length not the capacity"
 unfoldable pub onImage : {A : Type 0} → ℕ → ℕ → Answer A → Answer A
 onImage capacity imageLength rest = must (validCapacity capacity) invalidLayout (must (eqb imageLength capacity) badLength rest)
