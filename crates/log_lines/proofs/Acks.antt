@@ -6,7 +6,8 @@ use native.Mathlib.Omega.{arith}
 use borrow.Author.Tests.{eq-eqb, ne-eqb}
 use lib.ListN.{length}
 use Rattle.laws.specs.Refusals.{noSuchFlight, recording, lengthChanged, ledgerFull}
-use Rattle.log_lines.specs.Lines.{ascii, ackText, lineOf, grown}
+use Rattle.words.specs.Words.{ascii}
+use Rattle.log_lines.specs.Lines.{ackText, lineOf, grown}
 use Rattle.log_lines.specs.declared.Line.{Line}
 use Rattle.log_lines.proofs.Growing.{grown-line}
 
@@ -16,19 +17,19 @@ module _ (number : ℕ) (line : Line) where
   put-alone b h q = q ∙ grown-line [] b (omega arith)
 
   pub ack-no-such-flight : number ≡ noSuchFlight → line ≡ grown (lineOf []) (ascii "ERR no such flight\r\n") → line ≡ lineOf (ackText number)
-  unfolding ackText ascii
+  unfolding ackText
   ack-no-such-flight h q = rw (eq-eqb number noSuchFlight h) (put-alone (ascii "ERR no such flight\r\n") (omega arith) q)
 
   module _ (not12 : number ≡ noSuchFlight → ⊥) where
     pub ack-recording : number ≡ recording → line ≡ grown (lineOf []) (ascii "ERR flight still recording\r\n") → line ≡ lineOf (ackText number)
-    unfolding ackText ascii
+    unfolding ackText
     ack-recording h q =
         rw (ne-eqb number noSuchFlight not12, eq-eqb number recording h) (put-alone (ascii "ERR flight still recording\r\n") (omega arith) q)
 
     module _ (not13 : number ≡ recording → ⊥) where
       pub ack-length-changed : number ≡ lengthChanged → line ≡ grown (lineOf []) (ascii "ERR flight length changed; download it again\r\n")
           → line ≡ lineOf (ackText number)
-      unfolding ackText ascii
+      unfolding ackText
       ack-length-changed h q =
           rw (ne-eqb number noSuchFlight not12, ne-eqb number recording not13, eq-eqb number lengthChanged h)
           (put-alone (ascii "ERR flight length changed; download it again\r\n") (omega arith) q)
@@ -36,7 +37,7 @@ module _ (number : ℕ) (line : Line) where
       module _ (not14 : number ≡ lengthChanged → ⊥) where
         pub ack-ledger-full : number ≡ ledgerFull → line ≡ grown (lineOf []) (ascii "ERR sync ledger full; erase the log over USB\r\n")
             → line ≡ lineOf (ackText number)
-        unfolding ackText ascii
+        unfolding ackText
         ack-ledger-full h q =
             rw (ne-eqb number noSuchFlight not12, ne-eqb number recording not13, ne-eqb number lengthChanged not14, eq-eqb number ledgerFull h)
             (put-alone (ascii "ERR sync ledger full; erase the log over USB\r\n") (omega arith) q)

@@ -8,7 +8,7 @@ use lib.ListN.{length, length-append}
 use Rattle.laws.specs.Refusals.{noSuchFlight, recording, lengthChanged, ledgerFull}
 use Rattle.blackbox.specs.Page.{joined}
 use Rattle.log_search.specs.declared.StoredFlight.{StoredFlight}
-use Rattle.log_lines.specs.Lines.{ascii, countLine, flightLine, unsyncedLines, ackText}
+use Rattle.log_lines.specs.Lines.{countLine, flightLine, unsyncedLines, ackText}
 use Rattle.log_lines.specs.Laws.{EachFit, FlightLineFits, CountLineFits, AckTextFits, LinesFit}
 use Rattle.digits.proofs.Notation.{decimal-ten}
 use Rattle.log_lines.proofs.Growing.{flight-fits, count-fits, count-short}
@@ -26,7 +26,7 @@ fits-either true x y h k = h
 fits-either false x y h k = k
 
 pub ack-text-fits : AckTextFits
-unfolding ackText ascii
+unfolding ackText
 ack-text-fits number =
     fits-either (eqb number noSuchFlight) _ _ (omega arith)
     (fits-either (eqb number recording) _ _ (omega arith)

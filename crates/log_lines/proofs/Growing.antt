@@ -8,13 +8,13 @@ use native.Mathlib.Omega.{arith}
 use borrow.Author.Tests.{le-leb, lt-leb}
 use lib.ListN.{length, take, length-append}
 use lib.Seq.{take-at}
-use Rattle.words.specs.Words.{placed}
+use Rattle.words.specs.Words.{ascii, placed}
 use Rattle.blackbox.specs.Page.{padded}
 use Rattle.blackbox.proofs.Laying.{length-padded, padded-more}
 use Rattle.log_search.specs.declared.StoredFlight.{StoredFlight}
 use Rattle.digits.specs.Decimal.{digit, decimalOf}
 use Rattle.digits.proofs.Notation.{decimal-small, decimal-short, decimal-ten}
-use Rattle.log_lines.specs.Lines.{ascii, flag, countLine, flightLine, lineOf, grown}
+use Rattle.log_lines.specs.Lines.{flag, countLine, flightLine, lineOf, grown}
 use Rattle.log_lines.specs.declared.Line.{Line}
 
 -- ---- put: the line as it was, or with the bytes behind its text
@@ -73,7 +73,7 @@ module _ (f : StoredFlight) (id : length (decimalOf (f .«flight_id»)) ≤ 10) 
       ∷ ascii " pages=" ∷ decimalOf (f .pages) ∷ ascii "\r\n" ∷ []
 
   flight-total : total flight-pieces ≤ 56
-  unfolding flight-pieces ascii
+  unfolding flight-pieces
   flight-total = omega arith
 
   pub flight-made : (l0 l1 l2 l3 r : Line) → l0 ≡ lineOf [] → l1 ≡ grown (grown l0 (ascii "OK flight=")) (decimalOf (f .«flight_id»))
@@ -102,7 +102,7 @@ module _ (n : ℕ) (more : Bool) where
   count-pieces = ascii "OK unsynced n=" ∷ decimalOf n ∷ ascii " more=" ∷ decimalOf (flag more) ∷ ascii "\r\n" ∷ []
 
   count-total : total count-pieces ≡ 23 + length (decimalOf n)
-  unfolding count-pieces ascii
+  unfolding count-pieces
   count-total = omega (arith, ap length (decimal-flag more))
 
   length-count : length (countLine n more) ≡ 23 + length (decimalOf n)

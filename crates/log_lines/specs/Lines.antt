@@ -2,15 +2,13 @@
 -- acknowledgements": "emit_unsynced_lines and the four ERR texts are kept byte for byte; all lines come at once, and
 -- USB_RESPONSE_CAPACITY, not given, is taken as 56 or more."
 use Prim.Native.Nat.{ℕ, _+_}
-use Prim.Native.Char.{code}
-use Prim.Native.String.{String, [] as []ᵗ, _∷_ as _∷ᵗ_}
 use mathlib.Core.Bool.{Bool, true, false, cond}
 use mathlib.Core.List.{List, [], _∷_, _++_, map}
 use lib.Dec.{eqb, leb}
 use lib.ListN.{length, take, replicate}
 use Rattle.laws.specs.Refusals.{noSuchFlight, recording, lengthChanged, ledgerFull, badLength}
 use Rattle.laws.specs.Answers.{Answer, gives, refuses, must}
-use Rattle.words.specs.Words.{placed}
+use Rattle.words.specs.Words.{ascii, placed}
 use Rattle.blackbox.specs.Page.{joined, padded}
 use Rattle.log_search.specs.declared.StoredFlight.{StoredFlight}
 use Rattle.digits.specs.Decimal.{decimalOf}
@@ -18,11 +16,6 @@ use Rattle.log_lines.specs.declared.Line.{Line}
 use Rattle.log_lines.specs.declared.Lines.{Lines}
 
 -- ---- the texts
-
--- the bytes of an ASCII text: the code of each character
-unfoldable pub ascii : String → List ℕ
-ascii []ᵗ = []
-ascii (c ∷ᵗ s) = code c ∷ ascii s
 
 -- `u8::from(more)`
 abbrev pub flag : Bool → ℕ

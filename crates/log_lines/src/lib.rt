@@ -7,8 +7,9 @@ ghost use Prim.Native.Nat.{_≤_};
 ghost use mathlib.Core.List.{[]};
 ghost use lib.ListN.{length, take};
 ghost use Rattle.laws.specs.Answers.{gives, refuses};
+ghost use Rattle.words.specs.Words.{ascii};
 ghost use Rattle.digits.specs.Decimal.{decimalOf};
-ghost use Rattle.log_lines.specs.Lines.{ascii, flag, countLine, flightLine, unsyncedLines, unsynced, ackText};
+ghost use Rattle.log_lines.specs.Lines.{flag, countLine, flightLine, unsyncedLines, unsynced, ackText};
 ghost use Rattle.log_lines.specs.Lines.{lineOf, linesAnswer, grown, lengthened};
 
 // Flights that one answer lists.

@@ -14,7 +14,7 @@ use Rattle.words.specs.Words.{sameBytes}
 use Rattle.store.specs.Store.{programmedBytes}
 use Rattle.blackbox.specs.Flight.{nextFlight}
 use Rattle.blackbox.specs.Record.{Fit, isArmed}
-use Rattle.blackbox.specs.Page.{blankPage, encodedPage, decoded, recordsIn}
+use Rattle.blackbox.specs.Page.{rowsPerPage, blankPage, encodedPage, decoded, recordsIn}
 use Rattle.blackbox.specs.declared.FlightRecord.{FlightRecord}
 use Rattle.blackbox.specs.declared.PageMetadata.{PageMetadata}
 use Rattle.assembler.specs.Assembler.{marked}
@@ -59,7 +59,7 @@ real =
       freshEdition = tt;
       edition = λ r. tt;
       joins = λ e r. true;
-      perPage = λ e. 5;
+      perPage = λ e. rowsPerPage;
     }
 
 -- the pages of an image's log, in order

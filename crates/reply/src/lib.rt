@@ -90,8 +90,9 @@ pub fn give_number(answer: &mut [u8], n: u32) -> u32
 pub fn some_row(n: u32) -> [u8; 5]
     ensures { λ r. ⌜ r ≡ someRow n ⌝ }
 {
-    let b = words::u32_bytes(n);
-    [1, b[0], b[1], b[2], b[3]]
+    let mut row = [1, 0, 0, 0, 0];
+    words::put_u32(&mut row, 1, n);
+    row
 }
 
 // What a call returns that has no value.

@@ -9,7 +9,7 @@ use lib.ListN.{length, getD, take, drop}
 use Rattle.laws.specs.Refusals.{badLength}
 use Rattle.laws.specs.Answers.{Answer, must}
 use Rattle.words.specs.Words.{leBytes, u32At}
-use Rattle.blackbox.specs.Record.{recordOf}
+use Rattle.blackbox.specs.Record.{recordLength, recordOf}
 use Rattle.assembler.specs.Assembler.{fresh, started, pushed, stopped, taken, unfinishedFlight, noPage}
 use Rattle.assembler.specs.declared.PageAssembler.{PageAssembler}
 use Rattle.assembler.specs.declared.AssembleAnswer.{AssembleAnswer}
@@ -42,7 +42,7 @@ foundUnfinished a (some flight) = playedAs 0 true flight noPage a
 unfoldable pub playRow : PageAssembler → List ℕ → Played
 playRow a row =
     cond (eqb (getD row 0 0) 1) (flagged 0 false (started a (u32At row 2) (isSet (getD row 1 0))))
-    (cond (eqb (getD row 0 0) 2) (assembled (pushed a (recordOf (take 48 (drop 6 row)))))
+    (cond (eqb (getD row 0 0) 2) (assembled (pushed a (recordOf (take recordLength (drop 6 row)))))
     (cond (eqb (getD row 0 0) 3) (assembled (stopped a))
     (cond (eqb (getD row 0 0) 4) (took (taken a))
     (cond (eqb (getD row 0 0) 5) (foundUnfinished a (unfinishedFlight a (isSet (getD row 1 0))))

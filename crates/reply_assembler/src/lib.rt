@@ -78,7 +78,7 @@ fn record_in(row: &[u8]) -> FlightRecord
     ensures { λ r. ⌜ r ≡ recordOf (take 48 (drop 6 (now (row .entry)))) ⌝ }
 {
     let start = 6;
-    let end = start + 48;
+    let end = start + blackbox::RECORD_LEN;
     let a = FlightRecord::decode(&row[start..end]);
     a.record
 }
@@ -129,8 +129,9 @@ pub fn play(script: &[u8]) -> Played
 fn played_head(flag: bool, flight: u32) -> [u8; 5]
     ensures { λ r. ⌜ r ≡ flagOf flag ∷ leBytes 4 flight ⌝ }
 {
-    let b = words::u32_bytes(flight);
-    [reply::flag_of(flag), b[0], b[1], b[2], b[3]]
+    let mut row = [reply::flag_of(flag), 0, 0, 0, 0];
+    words::put_u32(&mut row, 1, flight);
+    row
 }
 
 fn lay_played(p: Played, answer: &mut [u8]) -> u32

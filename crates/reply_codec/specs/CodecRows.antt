@@ -8,7 +8,7 @@ use Rattle.laws.specs.Answers.{Answer, must}
 use Rattle.words.specs.Words.{leBytes}
 use Rattle.layout.specs.declared.StorageLayout.{StorageLayout}
 use Rattle.layout.specs.declared.LayoutAnswer.{LayoutAnswer}
-use Rattle.blackbox.specs.Page.{encoded, recordsIn}
+use Rattle.blackbox.specs.Page.{rowsPerPage, encoded, recordsIn}
 use Rattle.blackbox.specs.declared.FlightRecord.{FlightRecord}
 use Rattle.blackbox.specs.declared.PageMetadata.{PageMetadata}
 use Rattle.blackbox.specs.declared.RecordAnswer.{RecordAnswer}
@@ -45,4 +45,4 @@ toldPage a = heldAs (a .refused) (a .page)
 -- "The records a page is made of are held as five rows": 240 bytes, 48 for each; another length is refused 17
 unfoldable pub encodedRows : ℕ → ℕ → List ℕ → ℕ → Answer (List ℕ)
 encodedRows flight sequence rows count =
-    must (eqb (length rows) 240) badLength (encoded flight sequence (recordsIn 5 rows) count)
+    must (eqb (length rows) 240) badLength (encoded flight sequence (recordsIn rowsPerPage rows) count)

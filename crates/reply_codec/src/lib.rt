@@ -49,33 +49,14 @@ fn layout_row(l: StorageLayout) -> [u8; 20]
     ensures { λ r. ⌜ r ≡ layoutRow l ⌝ }
 {
     let slots = l.config_slot_addresses;
-    let c = words::u32_bytes(l.capacity_bytes);
-    let a = words::u32_bytes(slots[0]);
-    let b = words::u32_bytes(slots[1]);
-    let s = words::u32_bytes(l.log_start_address);
-    let p = words::u32_bytes(l.log_page_count);
-    [
-        c[0],
-        c[1],
-        c[2],
-        c[3],
-        a[0],
-        a[1],
-        a[2],
-        a[3],
-        b[0],
-        b[1],
-        b[2],
-        b[3],
-        s[0],
-        s[1],
-        s[2],
-        s[3],
-        p[0],
-        p[1],
-        p[2],
-        p[3],
-    ]
+    let mut bytes = [0u8; 20];
+    let row: &mut [u8] = &mut bytes;
+    words::put_u32(row, 0, l.capacity_bytes);
+    words::put_u32(row, 4, slots[0]);
+    words::put_u32(row, 8, slots[1]);
+    words::put_u32(row, 12, l.log_start_address);
+    words::put_u32(row, 16, l.log_page_count);
+    bytes
 }
 
 pub fn lay_layout(a: LayoutAnswer, answer: &mut [u8]) -> u32
@@ -93,19 +74,11 @@ pub fn lay_layout(a: LayoutAnswer, answer: &mut [u8]) -> u32
 fn metadata_row(m: PageMetadata) -> [u8; 9]
     ensures { λ r. ⌜ r ≡ metadataRow m ⌝ }
 {
-    let f = words::u32_bytes(m.flight_id);
-    let s = words::u32_bytes(m.page_sequence);
-    [
-        f[0],
-        f[1],
-        f[2],
-        f[3],
-        s[0],
-        s[1],
-        s[2],
-        s[3],
-        m.record_count,
-    ]
+    let mut row = [0u8; 9];
+    words::put_u32(&mut row, 0, m.flight_id);
+    words::put_u32(&mut row, 4, m.page_sequence);
+    row[8] = m.record_count;
+    row
 }
 
 pub fn lay_metadata(a: PageAnswer, answer: &mut [u8]) -> u32
@@ -157,12 +130,12 @@ fn record_at(rows: &[u8], start: usize) -> FlightRecord
     requires { ⌜ start + 48 ≤ length (now rows) ⌝ }
     ensures { λ r. ⌜ r ≡ recordOf (take 48 (drop start (now (rows .entry)))) ⌝ }
 {
-    let end = start + 48;
+    let end = start + blackbox::RECORD_LEN;
     let a = FlightRecord::decode(&rows[start..end]);
     a.record
 }
 
-fn records_of(rows: &[u8]) -> [FlightRecord; 5]
+fn records_of(rows: &[u8]) -> [FlightRecord; blackbox::RECORDS_PER_PAGE]
     requires { ⌜ length (now rows) ≡ 240 ⌝ }
     ensures { λ r. ⌜ r ≡ Page.recordsIn 5 (now (rows .entry)) ⌝ }
 {
@@ -178,7 +151,7 @@ fn records_of(rows: &[u8]) -> [FlightRecord; 5]
 pub fn encode_rows(flight_id: u32, page_sequence: u32, rows: &[u8], count: usize) -> EncodedPage
     ensures { λ r. ⌜ toldPage r ≡ encodedRows «flight_id» «page_sequence» (now (rows .entry)) count ⌝ }
 {
-    if rows.len() != 240 {
+    if rows.len() != blackbox::PAGE_DATA_LEN {
         return EncodedPage {
             refused: laws::BAD_LENGTH,
             page: [0u8; 256],

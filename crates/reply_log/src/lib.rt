@@ -27,10 +27,11 @@ ghost use Rattle.reply_log.specs.LogRows.{stepOf, recordingOf};
 fn scan_row(s: Scan) -> [u8; 9]
     ensures { λ r. ⌜ r ≡ scanRow s ⌝ }
 {
-    let p = words::u32_bytes(s.next_page);
-    let f = words::u32_bytes(s.next_flight);
-    let w = reply::flag_of(s.writable);
-    [p[0], p[1], p[2], p[3], f[0], f[1], f[2], f[3], w]
+    let mut row = [0u8; 9];
+    words::put_u32(&mut row, 0, s.next_page);
+    words::put_u32(&mut row, 4, s.next_flight);
+    row[8] = reply::flag_of(s.writable);
+    row
 }
 
 pub fn lay_scan(a: ScanAnswer, answer: &mut [u8]) -> u32
@@ -67,44 +68,22 @@ pub fn lay_flight(a: FlightAnswer, answer: &mut [u8]) -> u32
 pub fn stored_row(f: StoredFlight) -> [u8; 12]
     ensures { λ r. ⌜ r ≡ storedRow f ⌝ }
 {
-    let i = words::u32_bytes(f.flight_id);
-    let s = words::u32_bytes(f.start_page);
-    let p = words::u32_bytes(f.pages);
-    [
-        i[0],
-        i[1],
-        i[2],
-        i[3],
-        s[0],
-        s[1],
-        s[2],
-        s[3],
-        p[0],
-        p[1],
-        p[2],
-        p[3],
-    ]
+    let mut bytes = [0u8; 12];
+    let row: &mut [u8] = &mut bytes;
+    words::put_u32(row, 0, f.flight_id);
+    words::put_u32(row, 4, f.start_page);
+    words::put_u32(row, 8, f.pages);
+    bytes
 }
 
 fn found_row(f: StoredFlight) -> [u8; 13]
     ensures { λ r. ⌜ r ≡ 1 ∷ storedRow f ⌝ }
 {
-    let b = stored_row(f);
-    [
-        1,
-        b[0],
-        b[1],
-        b[2],
-        b[3],
-        b[4],
-        b[5],
-        b[6],
-        b[7],
-        b[8],
-        b[9],
-        b[10],
-        b[11],
-    ]
+    let stored = stored_row(f);
+    let mut row = [0u8; 13];
+    row[0] = 1;
+    words::put_bytes(&mut row, 1, &stored);
+    row
 }
 
 pub fn lay_find(a: FindAnswer, answer: &mut [u8]) -> u32
@@ -170,8 +149,9 @@ pub fn lay_header(a: HeaderAnswer, answer: &mut [u8]) -> u32
 fn bit_row(b: BitLocation) -> [u8; 5]
     ensures { λ r. ⌜ r ≡ bitRow b ⌝ }
 {
-    let a = words::u32_bytes(b.address);
-    [a[0], a[1], a[2], a[3], b.mask]
+    let mut row = [0, 0, 0, 0, b.mask];
+    words::put_u32(&mut row, 0, b.address);
+    row
 }
 
 pub fn lay_bit(a: BitAnswer, answer: &mut [u8]) -> u32
@@ -190,8 +170,9 @@ pub fn lay_bit(a: BitAnswer, answer: &mut [u8]) -> u32
 fn step_numbers(kind: u8, address: u32, value: u8) -> [u8; 6]
     ensures { λ r. ⌜ r ≡ stepNumbers kind address value ⌝ }
 {
-    let a = words::u32_bytes(address);
-    [kind, a[0], a[1], a[2], a[3], value]
+    let mut row = [kind, 0, 0, 0, 0, value];
+    words::put_u32(&mut row, 1, address);
+    row
 }
 
 fn step_row(s: MarkStep) -> [u8; 6]

@@ -32,7 +32,7 @@ use Rattle.log_writer.specs.declared.NextProgram.{NextProgram}
 use Rattle.log_writer.specs.declared.DrainAnswer.{DrainAnswer}
 use Rattle.log_writer.specs.declared.WriteAnswer.{WriteAnswer}
 use Rattle.script.specs.Script.{Operation, flagByte, flagAt, nextIn, orderIn, operationIn}
-use Rattle.script.proofs.Rows.{record-in, says-offer, says-drain, says-write, says-power, says-recover, says-reset, says-flush}
+use Rattle.script.proofs.Rows.{says-offer, says-drain, says-write, says-power, says-recover, says-reset, says-flush}
 use Rattle.rig.specs.Rig.{bench, unpowered, playing, offering, draining, writing, powering, flushing, played, imageAfter}
 use Rattle.rig.specs.declared.Bench.{Bench}
 use Rattle.rig.specs.declared.Played.{Played}
@@ -40,11 +40,6 @@ use Rattle.rig.specs.declared.Played.{Played}
 pub unpowered-made : (w : LogWriter) (q : RecordQueue) → w ≡ fresh → q ≡ empty → bench w q ≡ unpowered
 unfolding unpowered
 unpowered-made w q ew eq = λ k. bench (ew k) (eq k)
-
--- the record of an offer's row
-pub record-made : (row : List ℕ) (read : RecordAnswer) → length row ≡ 288 → read ≡ recordAnswer (recordDecoded (part 32 48 row))
-    → read .«record» ≡ recordOf (part 32 48 row)
-record-made row read n e = record-in row read n e
 
 -- ---- a scan without faults
 

@@ -110,10 +110,6 @@ numberOr0 (some n) = n
 abbrev pub since : LogWriter → Option ℕ
 since w = cond (w .«has_write_back_since») (some (w .«write_back_since_ms»)) none
 
--- a number of 64 bits, the low half first
-abbrev pub bytes64 : ℕ → List ℕ
-bytes64 n = leBytes 4 (n % 2 ^ 32) ++ leBytes 4 (n / 2 ^ 32)
-
 -- outcome, writable, recording, unfinished (flag), flush start (flag), queue length; pages_written, records_dropped, write_faults;
 -- next page, next flight, unfinished flight, flush start
 unfoldable pub tellsOf : Played → List ℕ
@@ -124,7 +120,7 @@ tellsOf p =
     ∷ (leBytes 4 (p .«pages_written») ++ (leBytes 4 (p .«records_dropped») ++ (leBytes 4 (p .«write_faults»)
     ++ (leBytes 4 (p .bench .writer .«next_page») ++ (leBytes 4 (p .bench .writer .«next_flight»)
     ++ (leBytes 4 (numberOr0 (unfinishedFlight (p .bench .writer .assembler) (p .bench .writer .«has_pending»)))
-    ++ bytes64 (numberOr0 (since (p .bench .writer)))))))))
+    ++ leBytes 8 (numberOr0 (since (p .bench .writer)))))))))
 
 -- ---- a script
 

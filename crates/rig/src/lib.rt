@@ -17,18 +17,17 @@ ghost use mathlib.Core.Bool.{true};
 ghost use mathlib.Core.List.{_++_};
 ghost use lib.ListN.{length, getD};
 ghost use Rattle.words.specs.Words.{leBytes, u32At, placed};
-ghost use Rattle.blackbox.specs.Record.{recordOf};
 ghost use Rattle.laws.specs.Answers.{toldDone};
-ghost use Rattle.store.specs.Store.{noFaults, part};
+ghost use Rattle.store.specs.Store.{noFaults};
 ghost use Rattle.records.specs.Scan.{toldScan, scanned};
 ghost use Rattle.assembler.specs.Assembler.{toldUnfinished};
 ghost use Rattle.queue.specs.Queue.{offered};
 ghost use Rattle.log_state.specs.Writer.{recovered};
 ghost use Rattle.log_state.specs.Flush.{flushed};
-ghost use Rattle.script.specs.Script.{flagAt, operationIn, operations, rowsIn};
+ghost use Rattle.script.specs.Script.{flagAt, offeredIn, operationIn, operations, rowsIn};
 ghost use Rattle.rig.specs.Rig.{unpowered, playing, draining, writing, outcomeOf, powering, flushing, played};
 ghost use Rattle.rig.specs.Rig.{imageAfter, isThere, numberOr0, since};
-ghost use Rattle.rig.specs.Rig.{bytes64, tellsOf, playsImage, tells, playTold, afterPlay, outputAfter};
+ghost use Rattle.rig.specs.Rig.{tellsOf, playsImage, tells, playTold, afterPlay, outputAfter};
 ghost use Rattle.rig.specs.Laws.{SoundBench};
 
 pub const TELL_LEN: usize = 40;
@@ -74,10 +73,10 @@ fn unreported(writer: LogWriter, queue: RecordQueue, outcome: u8) -> Played
 // The record that a row offers.
 fn offered_record(row: &[u8]) -> FlightRecord
     requires { ⌜ length (now row) ≡ 288 ⌝ }
-    ensures { λ r. ⌜ r ≡ recordOf (part 32 48 (now (row .entry))) ⌝ }
+    ensures { λ r. ⌜ r ≡ offeredIn (now (row .entry)) ⌝ }
 {
-    let read = FlightRecord::decode(&row[32..80]);
-    read.record
+    let answer = FlightRecord::decode(&row[32..80]);
+    answer.record
 }
 
 // A drain with the order and the mask of a row.
@@ -244,32 +243,6 @@ fn step(bench: Bench, capacity_bytes: u32, image: &mut [u8], row: &[u8]) -> Play
     flush(bench, row)
 }
 
-// Three numbers, one after another.
-fn three_numbers(a: u32, b: u32, c: u32) -> [u8; 12]
-    ensures { λ r. ⌜ r ≡ leBytes 4 a ++ (leBytes 4 b ++ leBytes 4 c) ⌝ }
-{
-    let one = words::u32_bytes(a);
-    let two = words::u32_bytes(b);
-    let three = words::u32_bytes(c);
-    let mut bytes = [0u8; 12];
-    words::put_bytes(&mut bytes, 0, &one);
-    words::put_bytes(&mut bytes, 4, &two);
-    words::put_bytes(&mut bytes, 8, &three);
-    bytes
-}
-
-// A number of 64 bits, the low half first.
-fn u64_bytes(n: u64) -> [u8; 8]
-    ensures { λ r. ⌜ r ≡ bytes64 n ⌝ }
-{
-    let low = words::u32_bytes((n % 4294967296) as u32);
-    let high = words::u32_bytes((n / 4294967296) as u32);
-    let mut bytes = [0u8; 8];
-    words::put_bytes(&mut bytes, 0, &low);
-    words::put_bytes(&mut bytes, 4, &high);
-    bytes
-}
-
 fn is_there(flight: UnfinishedFlight) -> u8
     ensures { λ r. ⌜ r ≡ isThere (toldUnfinished flight) ⌝ }
 {
@@ -318,22 +291,16 @@ fn tells_of(played: Played) -> [u8; 40]
         0,
         0,
     ];
-    let report = three_numbers(
-        played.pages_written,
-        played.records_dropped,
-        played.write_faults,
-    );
-    let state = three_numbers(
-        writer.next_page,
-        writer.next_flight,
-        number_or_0(unfinished),
-    );
-    let start = u64_bytes(since_or_0(writer));
     let mut bytes = [0u8; 40];
-    words::put_bytes(&mut bytes, 0, &head);
-    words::put_bytes(&mut bytes, 8, &report);
-    words::put_bytes(&mut bytes, 20, &state);
-    words::put_bytes(&mut bytes, 32, &start);
+    let row: &mut [u8] = &mut bytes;
+    words::put_bytes(row, 0, &head);
+    words::put_u32(row, 8, played.pages_written);
+    words::put_u32(row, 12, played.records_dropped);
+    words::put_u32(row, 16, played.write_faults);
+    words::put_u32(row, 20, writer.next_page);
+    words::put_u32(row, 24, writer.next_flight);
+    words::put_u32(row, 28, number_or_0(unfinished));
+    words::put_u64(row, 32, since_or_0(writer));
     bytes
 }
 

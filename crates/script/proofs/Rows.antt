@@ -17,13 +17,14 @@ use Rattle.store.specs.Store.{part}
 use Rattle.blackbox.specs.Page.{padded}
 use Rattle.blackbox.specs.Record.{recordOf, recordBytes, recordDecoded, recordAnswer}
 use Rattle.blackbox.specs.declared.RecordAnswer.{RecordAnswer}
-use Rattle.blackbox.proofs.Laying.{length-padded, padded-more, padded-twice, stores-follow}
+use Rattle.words.proofs.Numbers.{stores-follow}
+use Rattle.blackbox.proofs.Laying.{length-padded, padded-more, padded-twice}
 use Rattle.log_writer.specs.Pass.{drainOrder}
 use Rattle.log_writer.specs.declared.DrainOrder.{DrainOrder}
 use Rattle.log_writer.specs.declared.NextProgram.{NextProgram}
 use Rattle.log_writer.specs.declared.NextProgram.the-variants.{Busy, Fault, Cut}
 use Rattle.script.specs.Script.{Operation, offers, drains, writes, powers, recovers, resets, flushes, flagByte, nextByte, row, rowOf}
-use Rattle.script.specs.Script.{flagAt, nextIn, orderIn, operationIn, isRow, rowAt, rowsIn, eachIsRow, isScript}
+use Rattle.script.specs.Script.{flagAt, nextIn, orderIn, offeredIn, operationIn, isRow, rowAt, rowsIn, eachIsRow, isScript}
 
 -- ---- a row is laid from its front
 
@@ -36,7 +37,9 @@ module _ (operation next armed whileDisarmed flag first second : ℕ) where
 
   front-stored : placed (placed (placed (replicate 288 0) 0 head) 8 (leBytes 4 first)) 12 (leBytes 4 second) ≡ padded 288 0 front
   unfolding padded leBytes
-  front-stored = stores-follow 288 0 [] 0 ((0, head) ∷ (8, leBytes 4 first) ∷ (12, leBytes 4 second) ∷ []) refl (omega arith)
+  front-stored =
+      stores-follow (replicate 288 0) 0 head ((8, leBytes 4 first) ∷ (12, leBytes 4 second) ∷ []) (omega arith)
+      ∙ padded-more 288 0 [] front 0 refl (omega arith)
 
   row-filled : (payload : List ℕ) → length payload ≤ 256
       → padded 288 0 (padded 32 0 front ++ payload) ≡ row operation next armed whileDisarmed flag first second payload
@@ -45,15 +48,12 @@ module _ (operation next armed whileDisarmed flag first second : ℕ) where
       ap (λ (k : ℕ). padded 32 0 front ++ (payload ++ replicate k 0))
       {x = 288 - length (padded 32 0 front ++ payload)} {y = 256 - length payload} (omega arith)
 
-  pub row-made : (payload one two o1 o2 o3 o4 : List ℕ) → length payload ≤ 256 → one ≡ leBytes 4 first → two ≡ leBytes 4 second
-      → o1 ≡ placed (replicate 288 0) 0 head → o2 ≡ placed o1 8 one → o3 ≡ placed o2 12 two → o4 ≡ placed o3 32 payload
+  pub row-made : (payload o1 o2 o3 o4 : List ℕ) → length payload ≤ 256 → o1 ≡ placed (replicate 288 0) 0 head
+      → o2 ≡ placed o1 8 (leBytes 4 first) → o3 ≡ placed o2 12 (leBytes 4 second) → o4 ≡ placed o3 32 payload
       → o4 ≡ row operation next armed whileDisarmed flag first second payload
   unfolding leBytes
-  row-made payload one two o1 o2 o3 o4 h d1 d2 e1 e2 e3 e4 =
-      e4
-      ∙ ap (λ (l : List ℕ). placed l 32 payload)
-      (e3 ∙ ap₂ (λ (x y : List ℕ). placed x 12 y) (e2 ∙ ap₂ (λ (x y : List ℕ). placed x 8 y) e1 d1) d2 ∙ front-stored
-      ∙ padded-twice 288 0 front 32 (omega arith) (omega arith))
+  row-made payload o1 o2 o3 o4 h e1 e2 e3 e4 =
+      e4 ∙ ap (λ (l : List ℕ). placed l 32 payload) (rw (e3, e2, e1) front-stored ∙ padded-twice 288 0 front 32 (omega arith) (omega arith))
       ∙ padded-more 288 0 (padded 32 0 front) payload 32 (length-padded 32 0 front (omega arith)) (omega arith)
       ∙ row-filled payload h
 
@@ -66,7 +66,7 @@ record-there bytes n =
     rw (eq-eqb (length (part 32 48 bytes)) 48 long) refl
 
 pub record-in : (bytes : List ℕ) (answer : RecordAnswer) → length bytes ≡ 288 → answer ≡ recordAnswer (recordDecoded (part 32 48 bytes))
-    → answer .«record» ≡ recordOf (part 32 48 bytes)
+    → answer .«record» ≡ offeredIn bytes
 record-in bytes answer n e = ap (λ (x : RecordAnswer). x .«record») (e ∙ ap recordAnswer (record-there bytes n))
 
 -- ---- the operation that a row says, by its byte
@@ -88,7 +88,7 @@ module _ (bytes : List ℕ) where
   order-read limit succeed b armed whileDisarmed next eb en el ea ed es =
       λ k. drainOrder (el k) (ea k) (ed k) (es k) ((en ∙ ap nextIn eb) k)
 
-  pub says-offer : code ≡ 0 → operationIn bytes ≡ offers (recordOf (part 32 48 bytes))
+  pub says-offer : code ≡ 0 → operationIn bytes ≡ offers (offeredIn bytes)
   unfolding operationIn
   says-offer e = here 0 _ _ e
 
@@ -135,7 +135,7 @@ module _ (bytes : List ℕ) where
       → expected ≡ row 0 0 0 0 0 0 0 payload → r ≡ sameBytes bytes expected → r ≡ isRow bytes
   unfolding rowOf
   offer-row answer payload expected r n e ea ep ee er =
-      is-that (offers (recordOf (part 32 48 bytes))) expected r (says-offer e)
+      is-that (offers (offeredIn bytes)) expected r (says-offer e)
       (ee ∙ ap (row 0 0 0 0 0 0 0) (ep ∙ ap recordBytes (record-in bytes answer n ea))) er
 
   pub drain-row : (order : DrainOrder) (next armed whileDisarmed : ℕ) (expected : List ℕ) (r : Bool) → code ≡ 1 → order ≡ orderIn bytes

@@ -10,7 +10,7 @@ use lib.ListN.{length, getD, replicate}
 use Rattle.words.specs.Words.{leBytes, u32At, sameBytes}
 use Rattle.store.specs.Store.{part}
 use Rattle.blackbox.specs.Page.{padded}
-use Rattle.blackbox.specs.Record.{recordOf, recordBytes}
+use Rattle.blackbox.specs.Record.{recordLength, recordOf, recordBytes}
 use Rattle.blackbox.specs.declared.FlightRecord.{FlightRecord}
 use Rattle.log_writer.specs.Pass.{drainOrder}
 use Rattle.log_writer.specs.declared.DrainOrder.{DrainOrder}
@@ -78,9 +78,13 @@ byOperation code a b c d e f g =
     cond (eqb code 0) a
     (cond (eqb code 1) b (cond (eqb code 2) c (cond (eqb code 3) d (cond (eqb code 4) e (cond (eqb code 5) f g)))))
 
+-- the record in a row
+abbrev pub offeredIn : List ℕ → FlightRecord
+offeredIn bytes = recordOf (part 32 recordLength bytes)
+
 unfoldable pub operationIn : List ℕ → Operation
 operationIn bytes =
-    byOperation (getD bytes 2 0) (offers (recordOf (part 32 48 bytes)))
+    byOperation (getD bytes 2 0) (offers (offeredIn bytes))
     (drains (orderIn bytes) (part 32 256 bytes))
     (writes (u32At bytes 12) (nextIn (getD bytes 3 0)) (part 32 256 bytes))
     powers

@@ -80,13 +80,12 @@ fn row_bytes(
     ensures { λ r. ⌜ r ≡ row operation next armed «while_disarmed» flag first second (now (payload .entry)) ⌝ }
 {
     let head = [32, 1, operation, next, armed, while_disarmed, flag, 0];
-    let one = words::u32_bytes(first);
-    let two = words::u32_bytes(second);
     let mut bytes = [0u8; 288];
-    words::put_bytes(&mut bytes, 0, &head);
-    words::put_bytes(&mut bytes, 8, &one);
-    words::put_bytes(&mut bytes, 12, &two);
-    words::put_bytes(&mut bytes, 32, payload);
+    let row: &mut [u8] = &mut bytes;
+    words::put_bytes(row, 0, &head);
+    words::put_u32(row, 8, first);
+    words::put_u32(row, 12, second);
+    words::put_bytes(row, 32, payload);
     bytes
 }
 

@@ -1,14 +1,14 @@
 -- Little-endian numbers: what stands at an offset, byte by byte; writing and reading back, both ways, at any width.
 -- Assumes nothing.
 use mathlib.Core.Path.{_≡_, refl, sym, ap, ap₂, _∙_}
-use mathlib.Core.List.{List, [], _∷_, _++_}
-use Prim.Native.Nat.{ℕ, zero, suc, _+_, _*_, _/_, _%_, _^_, _≤_, _<_}
+use mathlib.Core.List.{List, [], _∷_, _++_, append-assoc}
+use Prim.Native.Nat.{ℕ, zero, suc, _+_, _-_, _*_, _/_, _%_, _^_, _≤_, _<_}
 use native.Mathlib.Omega.{arith}
-use native.Mathlib.Nat.{add-zero}
+use native.Mathlib.Nat.{add-zero, add-assoc}
 use native.Mathlib.Numerals.{add-one, add-two, add-three}
-use lib.ListN.{length, take, drop, getD, replicate, drop-of-length-le}
+use lib.ListN.{length, take, drop, getD, set, replicate, length-append, drop-of-length-le}
 use borrow.Author.Tests.{le-leb, lt-leb}
-use lib.Seq.{getD-drop, drop-drop, take-nil, paste}
+use lib.Seq.{getD-drop, drop-drop, take-nil, take-length, paste, paste-suc, length-paste, take-paste, drop-paste}
 use Rattle.words.specs.Words.{Bytes, leValue, leBytes, leAt, u16At, u32At, placed}
 
 -- ---- bytes
@@ -85,6 +85,18 @@ value-le-bytes (suc k) v h =
     let below : v / 256 < 256 ^ k = omega arith in
     rw (value-le-bytes k (v / 256) below) (omega arith)
 
+-- what a number's bytes are from an index on, byte by byte
+module _ (n v i rest : ℕ) (h : i < n) (e : drop i (leBytes n v) ≡ leBytes (n - i) rest) where
+  more : drop i (leBytes n v) ≡ rest % 256 ∷ leBytes (n - (i + 1)) (rest / 256)
+  unfolding leBytes
+  more = e ∙ ap (λ (k : ℕ). leBytes k rest) {x = n - i} {y = suc (n - (i + 1))} (omega arith)
+
+  pub next-byte : getD (leBytes n v) i 0 ≡ rest % 256
+  next-byte = ap (λ (j : ℕ). getD (leBytes n v) j 0) (sym (add-zero i)) ∙ sym (getD-drop i (leBytes n v) 0 0) ∙ ap (λ (l : List ℕ). getD l 0 0) more
+
+  pub next-rest : (next : ℕ) → next ≡ rest / 256 → drop (i + 1) (leBytes n v) ≡ leBytes (n - (i + 1)) next
+  next-rest next q = sym (drop-drop 1 i (leBytes n v)) ∙ ap (drop 1) more ∙ ap (leBytes (n - (i + 1))) (sym q)
+
 -- bytes are written back as they were
 pub le-bytes-value : (k : ℕ) (l : List ℕ) → length l ≡ k → Bytes l → leBytes k (leValue l) ≡ l
 unfolding leBytes leValue
@@ -112,6 +124,11 @@ past-end k l at h = rw (drop-of-length-le l {i = at} h, take-nil {A = ℕ} k) re
 
 -- ---- bytes placed in a list
 
+-- one byte more
+pub put-turn : (l out b : List ℕ) (at i place byte : ℕ) → at + i < length l → i < length b → out ≡ paste l at b i → place ≡ at + i
+    → byte ≡ getD b i 0 → set out place byte ≡ paste l at b (i + 1)
+put-turn l out b at i place byte h k e p q = rw (e, p, q, add-one i) (paste-suc l at b i 0 h k)
+
 pub placed-fits : (l : List ℕ) (at : ℕ) (b : List ℕ) → at + length b ≤ length l → placed l at b ≡ paste l at b (length b)
 unfolding placed
 placed-fits l at b h = rw (le-leb (at + length b) (length l) h) refl
@@ -119,3 +136,44 @@ placed-fits l at b h = rw (le-leb (at + length b) (length l) h) refl
 pub placed-short : (l : List ℕ) (at : ℕ) (b : List ℕ) → length l < at + length b → placed l at b ≡ l
 unfolding placed
 placed-short l at b h = rw (lt-leb (at + length b) (length l) h) refl
+
+-- what is placed where the bytes before it end, is placed with them
+pub placed-next : (l a b : List ℕ) (at next : ℕ) → at + length a ≡ next → next + length b ≤ length l → placed (placed l at a) next b ≡ placed l at (a ++ b)
+placed-next l a b at next e h =
+    ap (λ (m : List ℕ). placed m next b) (placed-fits l at a (omega arith))
+    ∙ ap (λ (k : ℕ). placed (paste l at a (length a)) k b) (sym e)
+    ∙ placed-fits (paste l at a (length a)) (at + length a) b (omega (arith, length-paste l at a (length a) (omega arith) (omega arith)))
+    ∙ ap₂ (λ (x y : List ℕ). x ++ take (length b) b ++ y) (take-paste l at a (length a) (omega arith) (omega arith)) rest
+    ∙ ap (λ (x : List ℕ). x ++ drop (at + length (a ++ b)) l) front
+    ∙ sym (placed-fits l at (a ++ b) (omega (arith, length-append a b)))
+  where
+    rest : drop (at + length a + length b) (paste l at a (length a)) ≡ drop (at + length (a ++ b)) l
+    rest =
+        sym (drop-drop (length b) (at + length a) (paste l at a (length a)))
+        ∙ ap (drop (length b)) (drop-paste l at a (length a) (omega arith) (omega arith))
+        ∙ drop-drop (length b) (at + length a) l
+        ∙ ap (λ (k : ℕ). drop k l) {x = at + length a + length b} {y = at + length (a ++ b)} (omega (arith, length-append a b))
+
+    front : take at l ++ take (length a) a ++ take (length b) b ≡ take at l ++ take (length (a ++ b)) (a ++ b)
+    front = rw (take-length a, take-length b, take-length (a ++ b)) (append-assoc (take at l) a b)
+
+-- stores one after another, each with its offset
+abbrev pub stores : List ℕ → List (ℕ × List ℕ) → List ℕ
+stores l [] = l
+stores l (s ∷ rest) = stores (placed l (s .0) (s .1)) rest
+
+-- each begins where the one before ended, and ends within n bytes
+abbrev pub Follow : ℕ → ℕ → List (ℕ × List ℕ) → Type 0
+Follow n at [] = Unit {0}
+Follow n at (s ∷ rest) = (at ≡ s .0) × (at + length (s .1) ≤ n) × Follow n (at + length (s .1)) rest
+
+abbrev pub stored : List ℕ → List (ℕ × List ℕ) → List ℕ
+stored p [] = p
+stored p (s ∷ rest) = stored (p ++ s .1) rest
+
+pub stores-follow : (l : List ℕ) (at : ℕ) (p : List ℕ) (ss : List (ℕ × List ℕ)) → Follow (length l) (at + length p) ss
+    → stores (placed l at p) ss ≡ placed l at (stored p ss)
+stores-follow l at p [] h = refl
+stores-follow l at p (s ∷ rest) h =
+    ap (λ (m : List ℕ). stores m rest) (placed-next l p (s .1) at (s .0) (h .0) (omega (arith, h .0, h .1)))
+    ∙ stores-follow l at (p ++ s .1) rest (rw (length-append p (s .1), ← add-assoc at (length p) (length (s .1))) (h .2))

@@ -1,6 +1,8 @@
 -- Bytes and the numbers they write. Document 01, "Bytes on flash": "Integers are little-endian; signed fields are two's
 -- complement."
 use Prim.Native.Nat.{ℕ, zero, suc, _+_, _*_, _/_, _%_, _<_}
+use Prim.Native.Char.{code}
+use Prim.Native.String.{String, [] as []ᵗ, _∷_ as _∷ᵗ_}
 use mathlib.Core.Bool.{Bool, true, false, cond}
 use mathlib.Core.List.{List, [], _∷_}
 use lib.Dec.{eqb, leb}
@@ -13,6 +15,11 @@ use mir.Val.{toZ, ofZ}
 -- every element is a byte
 abbrev pub Bytes : List ℕ → Type 0
 Bytes l = (i : ℕ) → getD l i 0 < 256
+
+-- the bytes of an ASCII text: the code of each character
+abbrev pub ascii : String → List ℕ
+ascii []ᵗ = []
+ascii (c ∷ᵗ s) = code c ∷ ascii s
 
 -- the number that bytes write, the low byte first
 unfoldable pub leValue : List ℕ → ℕ

@@ -50,13 +50,6 @@ pub fn u32_at(s: &[u8], at: usize) -> u32
     a + 256 * (b + 256 * (c + 256 * d))
 }
 
-// The two bytes of a number.
-pub fn u16_bytes(v: u16) -> [u8; 2]
-    ensures { λ r. ⌜ r ≡ leBytes 2 v ⌝ }
-{
-    [(v % 256) as u8, (v / 256 % 256) as u8]
-}
-
 // The four bytes of a number.
 pub fn u32_bytes(v: u32) -> [u8; 4]
     ensures { λ r. ⌜ r ≡ leBytes 4 v ⌝ }
@@ -111,6 +104,53 @@ pub fn put_bytes(out: &mut [u8], at: usize, b: &[u8])
         out[at + i] = b[i];
         i += 1;
     }
+}
+
+// The n low bytes of a number, the low byte first, written from an offset on, or nothing where they do not fit.
+fn put_number(out: &mut [u8], at: usize, v: u64, n: usize)
+    ensures { λ _. ⌜ now (out .exit) ≡ placed (now (out .entry)) at (leBytes n v) ⌝ }
+{
+    if out.len() < at {
+        return;
+    }
+    if out.len() - at < n {
+        return;
+    }
+    let mut rest = v;
+    let mut i = 0;
+    while i < n {
+        out[at + i] = (rest % 256) as u8;
+        rest = rest / 256;
+        i += 1;
+    }
+}
+
+// The two bytes of a number written from an offset on.
+pub fn put_u16(out: &mut [u8], at: usize, v: u16)
+    ensures { λ _. ⌜ now (out .exit) ≡ placed (now (out .entry)) at (leBytes 2 v) ⌝ }
+{
+    put_number(out, at, v as u64, 2);
+}
+
+// The four bytes of a number written from an offset on.
+pub fn put_u32(out: &mut [u8], at: usize, v: u32)
+    ensures { λ _. ⌜ now (out .exit) ≡ placed (now (out .entry)) at (leBytes 4 v) ⌝ }
+{
+    put_number(out, at, v as u64, 4);
+}
+
+// The two bytes of a signed number written from an offset on.
+pub fn put_i16(out: &mut [u8], at: usize, z: i16)
+    ensures { λ _. ⌜ now (out .exit) ≡ placed (now (out .entry)) at (leBytes 2 (bits16 z)) ⌝ }
+{
+    put_u16(out, at, to_u16(z));
+}
+
+// The eight bytes of a number written from an offset on.
+pub fn put_u64(out: &mut [u8], at: usize, v: u64)
+    ensures { λ _. ⌜ now (out .exit) ≡ placed (now (out .entry)) at (leBytes 8 v) ⌝ }
+{
+    put_number(out, at, v, 8);
 }
 
 // Whether two slices hold the same bytes. No byte ends the loop, so that it goes by many at a time.

@@ -1,5 +1,4 @@
 -- `log_lines::ack_response` meets its contract, a law to each text. Assumes nothing.
-use Rattle.log_lines.specs.Lines.{ascii}
 use Rattle.log_lines.proofs.Acks.{ack-no-such-flight, ack-recording, ack-length-changed, ack-ledger-full, ack-none}
 use borrow.Author.Needs.{needs}
 use Rattle.log_lines.proofs.ack_response.Statement.{statement}
@@ -12,7 +11,6 @@ alone-requires : tie.Need-alone-requires
 alone-requires c κs = search needs
 
 returns : tie.Need-returns
-unfolding ascii
 returns c = search (ack-no-such-flight, needs)
 
 slice-aggregate-alone-2 : tie.Need-slice-aggregate-alone-2
@@ -22,7 +20,6 @@ alone-requires-2 : tie.Need-alone-requires-2
 alone-requires-2 c κs = search needs
 
 returns-2 : tie.Need-returns-2
-unfolding ascii
 returns-2 c = search (ack-recording, needs)
 
 slice-aggregate-alone-3 : tie.Need-slice-aggregate-alone-3
@@ -32,7 +29,6 @@ alone-requires-3 : tie.Need-alone-requires-3
 alone-requires-3 c κs = search needs
 
 returns-3 : tie.Need-returns-3
-unfolding ascii
 returns-3 c = search (ack-length-changed, needs)
 
 slice-aggregate-alone-4 : tie.Need-slice-aggregate-alone-4
@@ -42,7 +38,6 @@ alone-requires-4 : tie.Need-alone-requires-4
 alone-requires-4 c κs = search needs
 
 returns-4 : tie.Need-returns-4
-unfolding ascii
 returns-4 c = search (ack-ledger-full, needs)
 
 no-line-requires : tie.Need-no-line-requires

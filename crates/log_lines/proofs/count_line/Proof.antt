@@ -1,6 +1,5 @@
 -- `log_lines::count_line` meets its contract: its pieces are those of the law. Assumes nothing.
 use native.Mathlib.Omega.{arith}
-use Rattle.log_lines.specs.Lines.{ascii}
 use Rattle.log_lines.proofs.Growing.{count-made}
 use borrow.Author.Needs.{needs}
 use Rattle.log_lines.proofs.count_line.Statement.{statement}
@@ -28,7 +27,6 @@ ended-requires : tie.Need-ended-requires
 ended-requires c κs = search needs
 
 returns : tie.Need-returns
-unfolding ascii
 returns c =
     let s = c .before .before .before .before .before .before .before in
     let none = c .before .before .before .before .before .no-line in

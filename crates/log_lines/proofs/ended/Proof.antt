@@ -1,5 +1,4 @@
 -- `log_lines::ended` meets its contract. Assumes nothing.
-use Rattle.log_lines.specs.Lines.{ascii}
 use borrow.Author.Needs.{needs}
 use Rattle.log_lines.proofs.ended.Statement.{statement}
 use Rattle.log_lines.proofs.ended.Tie as tie
@@ -11,7 +10,6 @@ put-requires : tie.Need-put-requires
 put-requires c κs = search needs
 
 returns : tie.Need-returns
-unfolding ascii
 returns c = search needs
 
 pub ended-spec : {M : Type 1} → statement M

@@ -1,5 +1,4 @@
 -- `log_lines::flight_line` meets its contract: its pieces are those of the law. Assumes nothing.
-use Rattle.log_lines.specs.Lines.{ascii}
 use Rattle.log_lines.proofs.Growing.{flight-made, flight-fits}
 use borrow.Author.Needs.{needs}
 use Rattle.log_lines.proofs.flight_line.Statement.{statement}
@@ -30,7 +29,6 @@ ended-requires : tie.Need-ended-requires
 ended-requires c κs = search needs
 
 returns : tie.Need-returns
-unfolding ascii
 returns c =
     let f = c .before .before .before .before .before .before .before .before .args .flight in
     let none = c .before .before .before .before .before .before .before .no-line in

@@ -1,30 +1,19 @@
 -- `reply_log::bit_row` meets its contract. Assumes nothing.
-use Rattle.words.specs.Words.{leBytes}
+use Rattle.words.specs.Words.{leBytes, placed}
 use Rattle.reply_log.specs.LogRows.{bitRow}
 use borrow.Author.Needs.{needs}
 use Rattle.reply_log.proofs.bit_row.Statement.{statement}
 use Rattle.reply_log.proofs.bit_row.Tie as tie
 
-u32-bytes-requires : tie.Need-u32-bytes-requires
-u32-bytes-requires c κs = search needs
+slice-aggregate-put-u32 : tie.Need-slice-aggregate-put-u32
+slice-aggregate-put-u32 c = search needs
 
-array-read-t6 : tie.Need-array-read-t6
-array-read-t6 c = search needs
-
-array-read-t9 : tie.Need-array-read-t9
-array-read-t9 c = search needs
-
-array-read-t12 : tie.Need-array-read-t12
-array-read-t12 c = search needs
-
-array-read-t15 : tie.Need-array-read-t15
-array-read-t15 c = search needs
+put-u32-requires : tie.Need-put-u32-requires
+put-u32-requires c κs = search needs
 
 returns : tie.Need-returns
-unfolding leBytes bitRow
-returns c = simp (c .u32-bytes .ensures)
+unfolding placed leBytes bitRow
+returns c = c .before .put-u32 .ensures
 
 pub bit-row-spec : {M : Type 1} → statement M
-bit-row-spec =
-    tie.close
-    (tie.spec u32-bytes-requires array-read-t6 array-read-t9 array-read-t12 array-read-t15 returns)
+bit-row-spec = tie.close (tie.spec slice-aggregate-put-u32 put-u32-requires returns)

@@ -1,76 +1,36 @@
 -- `reply_log::stored_row` meets its contract. Assumes nothing.
-use Rattle.words.specs.Words.{leBytes}
+use Rattle.words.specs.Words.{leBytes, placed}
 use Rattle.reply_log.specs.LogRows.{storedRow}
 use borrow.Author.Needs.{needs}
 use Rattle.reply_log.proofs.stored_row.Statement.{statement}
 use Rattle.reply_log.proofs.stored_row.Tie as tie
 
-u32-bytes-requires : tie.Need-u32-bytes-requires
-u32-bytes-requires c κs = search needs
+slice-aggregate-row : tie.Need-slice-aggregate-row
+slice-aggregate-row c = search needs
 
-u32-bytes-requires-2 : tie.Need-u32-bytes-requires-2
-u32-bytes-requires-2 c κs = search needs
+put-u32-requires : tie.Need-put-u32-requires
+put-u32-requires c κs = search needs
 
-u32-bytes-requires-3 : tie.Need-u32-bytes-requires-3
-u32-bytes-requires-3 c κs = search needs
+put-u32-requires-2 : tie.Need-put-u32-requires-2
+put-u32-requires-2 c κs = search needs
 
-array-read-t8 : tie.Need-array-read-t8
-array-read-t8 c = search needs
-
-array-read-t11 : tie.Need-array-read-t11
-array-read-t11 c = search needs
-
-array-read-t14 : tie.Need-array-read-t14
-array-read-t14 c = search needs
-
-array-read-t17 : tie.Need-array-read-t17
-array-read-t17 c = search needs
-
-array-read-t20 : tie.Need-array-read-t20
-array-read-t20 c = search needs
-
-array-read-t23 : tie.Need-array-read-t23
-array-read-t23 c = search needs
-
-array-read-t26 : tie.Need-array-read-t26
-array-read-t26 c = search needs
-
-array-read-t29 : tie.Need-array-read-t29
-array-read-t29 c = search needs
-
-array-read-t32 : tie.Need-array-read-t32
-array-read-t32 c = search needs
-
-array-read-t35 : tie.Need-array-read-t35
-array-read-t35 c = search needs
-
-array-read-t38 : tie.Need-array-read-t38
-array-read-t38 c = search needs
-
-array-read-t41 : tie.Need-array-read-t41
-array-read-t41 c = search needs
+put-u32-requires-3 : tie.Need-put-u32-requires-3
+put-u32-requires-3 c κs = search needs
 
 returns : tie.Need-returns
-unfolding leBytes storedRow
-returns c = simp (c .u32-bytes3 .ensures, c .before .u32-bytes2 .ensures, c .before .before .u32-bytes .ensures)
+unfolding placed leBytes storedRow
+returns c =
+    let pages = c .before in
+    let start = pages .before .before .before in
+    let flight = start .before .before .before .before in
+    rw (pages .put-u323 .ensures, start .put-u322 .ensures, flight .put-u32 .ensures)
 
 pub stored-row-spec : {M : Type 1} → statement M
 stored-row-spec =
     tie.close
     (tie.spec
-    u32-bytes-requires
-    u32-bytes-requires-2
-    u32-bytes-requires-3
-    array-read-t8
-    array-read-t11
-    array-read-t14
-    array-read-t17
-    array-read-t20
-    array-read-t23
-    array-read-t26
-    array-read-t29
-    array-read-t32
-    array-read-t35
-    array-read-t38
-    array-read-t41
+    slice-aggregate-row
+    put-u32-requires
+    put-u32-requires-2
+    put-u32-requires-3
     returns)

@@ -1,6 +1,6 @@
 -- `rig::offered_record` meets its contract. Assumes nothing.
 use borrow.Author.Needs.{needs}
-use Rattle.rig.proofs.Ways.{record-made}
+use Rattle.script.proofs.Rows.{record-in}
 use Rattle.rig.proofs.offered_record.Statement.{statement}
 use Rattle.rig.proofs.offered_record.Tie as tie
 
@@ -17,7 +17,7 @@ decode-requires : tie.Need-decode-requires
 decode-requires c κs = search needs
 
 returns : tie.Need-returns
-returns c = search (record-made, needs)
+returns c = search (record-in, needs)
 
 pub offered-record-spec : {M : Type 1} → statement M
 offered-record-spec =

@@ -1,4 +1,4 @@
--- `rig::tells_of` meets its contract. Assumes nothing.
+-- `rig::tells_of` meets its contract: its stores are those of the law. Assumes nothing.
 use borrow.Author.Needs.{needs}
 use Rattle.rig.proofs.Telling.{tells-made}
 use Rattle.rig.proofs.tells_of.Statement.{statement}
@@ -19,76 +19,62 @@ is-there-requires c κs = search needs
 flag-byte-requires-3 : tie.Need-flag-byte-requires-3
 flag-byte-requires-3 c κs = search needs
 
-cast-t16 : tie.Need-cast-t16
-cast-t16 c = search needs
+cast-t14 : tie.Need-cast-t14
+cast-t14 c = search needs
 
-three-numbers-requires : tie.Need-three-numbers-requires
-three-numbers-requires c κs = search needs
-
-number-or-0-requires : tie.Need-number-or-0-requires
-number-or-0-requires c κs = search needs
-
-three-numbers-requires-2 : tie.Need-three-numbers-requires-2
-three-numbers-requires-2 c κs = search needs
-
-since-or-0-requires : tie.Need-since-or-0-requires
-since-or-0-requires c κs = search needs
-
-u64-bytes-requires : tie.Need-u64-bytes-requires
-u64-bytes-requires c κs = search needs
+slice-aggregate-row : tie.Need-slice-aggregate-row
+slice-aggregate-row c = search needs
 
 slice-aggregate-put-bytes : tie.Need-slice-aggregate-put-bytes
 slice-aggregate-put-bytes c = search needs
 
-slice-aggregate-put-bytes-2 : tie.Need-slice-aggregate-put-bytes-2
-slice-aggregate-put-bytes-2 c = search needs
-
 put-bytes-requires : tie.Need-put-bytes-requires
 put-bytes-requires c κs = search needs
 
-slice-aggregate-put-bytes-3 : tie.Need-slice-aggregate-put-bytes-3
-slice-aggregate-put-bytes-3 c = search needs
+put-u32-requires : tie.Need-put-u32-requires
+put-u32-requires c κs = search needs
 
-slice-aggregate-put-bytes-4 : tie.Need-slice-aggregate-put-bytes-4
-slice-aggregate-put-bytes-4 c = search needs
+put-u32-requires-2 : tie.Need-put-u32-requires-2
+put-u32-requires-2 c κs = search needs
 
-put-bytes-requires-2 : tie.Need-put-bytes-requires-2
-put-bytes-requires-2 c κs = search needs
+put-u32-requires-3 : tie.Need-put-u32-requires-3
+put-u32-requires-3 c κs = search needs
 
-slice-aggregate-put-bytes-5 : tie.Need-slice-aggregate-put-bytes-5
-slice-aggregate-put-bytes-5 c = search needs
+put-u32-requires-4 : tie.Need-put-u32-requires-4
+put-u32-requires-4 c κs = search needs
 
-slice-aggregate-put-bytes-6 : tie.Need-slice-aggregate-put-bytes-6
-slice-aggregate-put-bytes-6 c = search needs
+put-u32-requires-5 : tie.Need-put-u32-requires-5
+put-u32-requires-5 c κs = search needs
 
-put-bytes-requires-3 : tie.Need-put-bytes-requires-3
-put-bytes-requires-3 c κs = search needs
+number-or-0-requires : tie.Need-number-or-0-requires
+number-or-0-requires c κs = search needs
 
-slice-aggregate-put-bytes-7 : tie.Need-slice-aggregate-put-bytes-7
-slice-aggregate-put-bytes-7 c = search needs
+put-u32-requires-6 : tie.Need-put-u32-requires-6
+put-u32-requires-6 c κs = search needs
 
-slice-aggregate-put-bytes-8 : tie.Need-slice-aggregate-put-bytes-8
-slice-aggregate-put-bytes-8 c = search needs
+since-or-0-requires : tie.Need-since-or-0-requires
+since-or-0-requires c κs = search needs
 
-put-bytes-requires-4 : tie.Need-put-bytes-requires-4
-put-bytes-requires-4 c κs = search needs
+put-u64-requires : tie.Need-put-u64-requires
+put-u64-requires c κs = search needs
 
 returns : tie.Need-returns
 returns c =
-    let c5 = c .before .before .before .before .before in
-    let c9 = c5 .before .before .before .before in
-    let c13 = c9 .before .before .before .before in
-    let c16 = c13 .before .before .before in
-    let c18 = c16 .before .before in
-    let c20 = c18 .before .before in
-    let c22 = c20 .before .before in
-    let c24 = c22 .before .before in
-    let c26 = c24 .before .before in
-    tells-made (c26 .before .before .before .before .before
-    .args .played) (c26 .unfinished-flight .result) _ _ _ _ _ _ _ _ _ _ _ _ _ (c26 .unfinished-flight .ensures)
-    (c24 .before .flag-byte .ensures) (c24 .flag-byte2 .ensures) (c22 .before .is-there .ensures) (c22 .flag-byte3 .ensures)
-    (c18 .before .number-or-0 .ensures) (c16 .before .since-or-0 .ensures) (c20 .three-numbers .ensures) (c18 .three-numbers2 .ensures)
-    (c16 .u64-bytes .ensures) (c13 .put-bytes .ensures) (c9 .put-bytes2 .ensures) (c5 .put-bytes3 .ensures) (c .before .put-bytes4 .ensures)
+    let since = c .before in
+    let unfinished = since .before .before .before .before in
+    let flight = unfinished .before .before .before .before .before in
+    let page = flight .before .before .before .before in
+    let faults = page .before .before .before .before in
+    let dropped = faults .before .before .before .before in
+    let pages = dropped .before .before .before .before in
+    let head = pages .before .before .before .before in
+    let there = head .before .before .before .before .before in
+    let asked = there .before .before .before .before in
+    tells-made (asked .before .before .before .before .before .args .played) (asked .unfinished-flight .result) _ _ _ _ _ _ _ _ _ _ _ _ _ _
+    (asked .unfinished-flight .ensures) (there .before .before .before .flag-byte .ensures) (there .before .before .flag-byte2 .ensures)
+    (there .before .is-there .ensures) (there .flag-byte3 .ensures) (unfinished .before .number-or-0 .ensures) (since .before .since-or-0 .ensures)
+    (head .put-bytes .ensures) (pages .put-u32 .ensures) (dropped .put-u322 .ensures) (faults .put-u323 .ensures) (page .put-u324 .ensures)
+    (flight .put-u325 .ensures) (unfinished .put-u326 .ensures) (since .put-u64 .ensures)
 
 pub tells-of-spec : {M : Type 1} → statement M
 tells-of-spec =
@@ -99,22 +85,17 @@ tells-of-spec =
     flag-byte-requires-2
     is-there-requires
     flag-byte-requires-3
-    cast-t16
-    three-numbers-requires
-    number-or-0-requires
-    three-numbers-requires-2
-    since-or-0-requires
-    u64-bytes-requires
+    cast-t14
+    slice-aggregate-row
     slice-aggregate-put-bytes
-    slice-aggregate-put-bytes-2
     put-bytes-requires
-    slice-aggregate-put-bytes-3
-    slice-aggregate-put-bytes-4
-    put-bytes-requires-2
-    slice-aggregate-put-bytes-5
-    slice-aggregate-put-bytes-6
-    put-bytes-requires-3
-    slice-aggregate-put-bytes-7
-    slice-aggregate-put-bytes-8
-    put-bytes-requires-4
+    put-u32-requires
+    put-u32-requires-2
+    put-u32-requires-3
+    put-u32-requires-4
+    put-u32-requires-5
+    number-or-0-requires
+    put-u32-requires-6
+    since-or-0-requires
+    put-u64-requires
     returns)

@@ -4,63 +4,41 @@ use borrow.Author.Needs.{needs}
 use Rattle.script.proofs.row_bytes.Statement.{statement}
 use Rattle.script.proofs.row_bytes.Tie as tie
 
-u32-bytes-requires : tie.Need-u32-bytes-requires
-u32-bytes-requires c κs = search needs
-
-u32-bytes-requires-2 : tie.Need-u32-bytes-requires-2
-u32-bytes-requires-2 c κs = search needs
+slice-aggregate-row : tie.Need-slice-aggregate-row
+slice-aggregate-row c = search needs
 
 slice-aggregate-put-bytes : tie.Need-slice-aggregate-put-bytes
 slice-aggregate-put-bytes c = search needs
 
-slice-aggregate-put-bytes-2 : tie.Need-slice-aggregate-put-bytes-2
-slice-aggregate-put-bytes-2 c = search needs
-
 put-bytes-requires : tie.Need-put-bytes-requires
 put-bytes-requires c κs = search needs
 
-slice-aggregate-put-bytes-3 : tie.Need-slice-aggregate-put-bytes-3
-slice-aggregate-put-bytes-3 c = search needs
+put-u32-requires : tie.Need-put-u32-requires
+put-u32-requires c κs = search needs
 
-slice-aggregate-put-bytes-4 : tie.Need-slice-aggregate-put-bytes-4
-slice-aggregate-put-bytes-4 c = search needs
+put-u32-requires-2 : tie.Need-put-u32-requires-2
+put-u32-requires-2 c κs = search needs
 
 put-bytes-requires-2 : tie.Need-put-bytes-requires-2
 put-bytes-requires-2 c κs = search needs
 
-slice-aggregate-put-bytes-5 : tie.Need-slice-aggregate-put-bytes-5
-slice-aggregate-put-bytes-5 c = search needs
-
-slice-aggregate-put-bytes-6 : tie.Need-slice-aggregate-put-bytes-6
-slice-aggregate-put-bytes-6 c = search needs
-
-put-bytes-requires-3 : tie.Need-put-bytes-requires-3
-put-bytes-requires-3 c κs = search needs
-
-slice-aggregate-put-bytes-7 : tie.Need-slice-aggregate-put-bytes-7
-slice-aggregate-put-bytes-7 c = search needs
-
-put-bytes-requires-4 : tie.Need-put-bytes-requires-4
-put-bytes-requires-4 c κs = search needs
-
 returns : tie.Need-returns
-returns c = search (row-made, needs)
+returns c =
+    let last = c .before in
+    let second = last .before .before .before in
+    let first = second .before .before .before .before in
+    let head = first .before .before .before .before in
+    let few = head .before .before .before .before .before .pre in
+    search (row-made, few, head .put-bytes .ensures, first .put-u32 .ensures, second .put-u322 .ensures, last .put-bytes2 .ensures)
 
 pub row-bytes-spec : {M : Type 1} → statement M
 row-bytes-spec =
     tie.close
     (tie.spec
-    u32-bytes-requires
-    u32-bytes-requires-2
+    slice-aggregate-row
     slice-aggregate-put-bytes
-    slice-aggregate-put-bytes-2
     put-bytes-requires
-    slice-aggregate-put-bytes-3
-    slice-aggregate-put-bytes-4
+    put-u32-requires
+    put-u32-requires-2
     put-bytes-requires-2
-    slice-aggregate-put-bytes-5
-    slice-aggregate-put-bytes-6
-    put-bytes-requires-3
-    slice-aggregate-put-bytes-7
-    put-bytes-requires-4
     returns)

@@ -1,12 +1,10 @@
 -- `words::put_bytes` meets its contract. The loop's invariant: the first i bytes are placed. Assumes nothing.
-use Prim.Native.Nat.{ℕ, _+_, _-_, _≤_}
+use Prim.Native.Nat.{_+_, _-_, _≤_}
 use mathlib.Core.Path.{_≡_, refl, sym, ap, _∙_}
-use mathlib.Core.List.{List}
-use native.Mathlib.Numerals.{add-one}
-use lib.ListN.{length, getD, set, length-set}
-use lib.Seq.{paste, paste-zero, paste-suc}
+use lib.ListN.{length, length-set}
+use lib.Seq.{paste, paste-zero}
 use Rattle.words.specs.Words.{placed}
-use Rattle.words.proofs.Numbers.{placed-fits, placed-short}
+use Rattle.words.proofs.Numbers.{put-turn, placed-fits, placed-short}
 use borrow.Author.Needs.{needs}
 use native.Mathlib.Omega.{arith}
 use Rattle.words.proofs.put_bytes.Statement.{statement}
@@ -52,9 +50,7 @@ loop-again c =
       omega arith,
       omega arith,
       simp length-set (omega arith),
-      ap (λ (p : List ℕ). set p (s .args .at + l .i) (getD (s .args .b .now) (l .i) 0)) (l .inv .3)
-          ∙ paste-suc (s .args .out .now) (s .args .at) (s .args .b .now) (l .i) 0 (omega arith) (omega arith)
-          ∙ ap (paste (s .args .out .now) (s .args .at) (s .args .b .now)) (sym (add-one (l .i))),
+      put-turn (s .args .out .now) (l .out) (s .args .b .now) (s .args .at) (l .i) _ _ (omega arith) (omega arith) (l .inv .3) (omega arith) refl,
     )
 
 same-length : tie.Need-same-length Inv-loop μ-loop
