@@ -409,7 +409,7 @@ fn census_time(program: &str, image: &[u8]) -> f64 {
 /// The census program on a log of 176 flights, and on an image that it refuses, which is what starting it costs.
 fn census() {
     let Ok(program) = std::env::var("STIPEFLUTE_CENSUS") else {
-        println!("census: not measured, since its program is not at hand (rt check census makes it, for x86-64)");
+        println!("census: not measured, since its program is not at hand (rt check run_census makes it, for x86-64)");
         return;
     };
     let mut image = Image::erased(61_440);

@@ -33,7 +33,7 @@ torn      1 page: 2
 
 /// The numbers of each sample's census, by name.
 fn censuses() -> Vec<(String, Vec<Vec<i64>>)> {
-    let text = std::fs::read_to_string(root().join("crates/census_samples/stdout")).unwrap();
+    let text = std::fs::read_to_string(root().join("crates/run_samples/stdout")).unwrap();
     let parts = text.split("sample ").skip(1).map(|part| part.split("noise of").next().unwrap());
     let numbers = |line: &str| line.split(' ').filter_map(|word| word.parse().ok()).collect();
     parts.map(|part| (part.split(' ').next().unwrap().to_string(), part.lines().skip(1).map(numbers).collect())).collect()

@@ -1,8 +1,8 @@
 //! A fixed list: recipes in text, one call to a line, and the Rust's answers to them, so that a program without Rust at hand can replay
-//! it. The program is the crate replay_run: its stdin is the list, its stdout the answers. They were made by
+//! it. The program is the crate run_replay: its stdin is the list, its stdout the answers. They were made by
 //!
-//!   oracle/run --make-list --images 60 --lives 60 --seed 7 >crates/replay_run/stdin
-//!   oracle/run --answers crates/replay_run/stdin >crates/replay_run/stdout
+//!   oracle/run --make-list --images 60 --lives 60 --seed 7 >crates/run_replay/stdin
+//!   oracle/run --answers crates/run_replay/stdin >crates/run_replay/stdout
 //!
 //! A line is a word and decimal numbers, parted by single spaces. Lines that build an image print nothing:
 //!

@@ -1,7 +1,7 @@
 -- The calls of the writer as the Rust has them (log_writer.rs): drain, turn by turn, and write_pending, on a log of pages.
 -- From document 01, "Writer and store". The queue is a list of records, first in, first out.
 -- The code's calls are log_writer/specs/Pass. That the two agree, on the view of writer, queue and image, is `drain-is` and `write-is`
--- (log_views/proofs), and of whole scripts `DevicesAgree` (log_lives/specs/Theorem).
+-- (power_views/proofs), and of whole scripts `DevicesAgree` (power_lives/specs/Theorem).
 use Prim.Native.Nat.{ℕ, zero, suc}
 use mathlib.Core.Bool.{Bool, true, false, cond}
 use mathlib.Core.Option.{Option, none, some}

@@ -1,5 +1,5 @@
 -- The laws that a page store must meet: what demand 3 has to know of pages, records and masks, and all that the theorems ask of a store. Each
--- theorem is over a store and these laws of it; log_pages shows them of the page of 256 bytes, proofs/Small of the small store.
+-- theorem is over a store and these laws of it; power_pages shows them of the page of 256 bytes, proofs/Small of the small store.
 -- From document 01, "Bytes on flash" and "Writer and store".
 use Prim.Native.Nat.{ℕ, suc, _<_}
 use mathlib.Core.Path.{_≡_}

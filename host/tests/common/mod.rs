@@ -18,7 +18,7 @@ pub fn root() -> PathBuf {
 }
 
 pub fn sample(name: &str) -> String {
-    let path = root().join("crates/census_samples/data").join(name);
+    let path = root().join("crates/run_samples/data").join(name);
     path.to_str().unwrap().to_string()
 }
 
