@@ -6,7 +6,8 @@
  *
  * Slices. A slice is a pointer and a length in bytes. The pointer must not be null, also where the length is 0, and must be good for
  * the length; what a call writes (`answer`, `output`, `image` where it is not const) must not overlap another slice of that call.
- * Nothing is kept after the call. No call allocates, blocks or fails in another way than by its reply.
+ * Nothing is kept after the call. No call allocates or blocks. A call whose slices are as said and that has its stack ends, and what it
+ * refuses it tells by its reply alone.
  *
  * Answer. `answer` is a row of bytes of the one length that the call's comment gives; numbers in it are little-endian, flags are 0 or
  * 1, and an Option is a flag (0 none, 1 some) and its value, which is 0 where there is none. The row is written whole where nothing
@@ -244,7 +245,9 @@ uint32_t stipeflute_assemble(const uint8_t *script, size_t script_len, uint8_t *
  * `output` has 40 bytes for each row, written after its call: outcome (u8) 0: of an offer its refusal (0 or 16), of drain 1 if the power was
  * cut, of write_pending 0 Nothing, 1 Written, 2 RegionFull, 3 ProgramFailed, 4 power cut, of flush 1 if it flushes, else 0; writable 1, recording 2
  * (flags); whether a flight is unfinished 3 and whether a flush waits 4 (flags); the queue's length (u8) 5; pages_written 8, records_dropped 12,
- * write_faults 16, next page 20, next flight 24, the unfinished flight 28 (u32 each); the flush's start (u64) 32.
+ * write_faults 16, next page 20, next flight 24, the unfinished flight 28 (u32 each); the flush's start (u64) 32. The three counts are drain's
+ * report, and 0 after any other call: that a write_pending wrote its page is told by its outcome and by the next page, and a failed one
+ * counts no fault.
  * Refused: 5, 17 (a row that is malformed, or an output of another length); then image and output stay as they were.
  * Stack: 16 KB. */
 uint32_t stipeflute_rig(uint32_t capacity_bytes, uint8_t *image, size_t image_len, const uint8_t *script, size_t script_len,
