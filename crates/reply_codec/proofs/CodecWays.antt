@@ -7,7 +7,7 @@ use mathlib.Core.List.{List, [], _∷_}
 use native.Mathlib.Omega.{arith}
 use borrow.Author.Tests.{eq-eqb, ne-eqb}
 use lib.Dec.{eqb, leb, ltb}
-use lib.ListN.{length, getD, take, drop, length-drop}
+use lib.ListN.{length, getD, take, drop, replicate, length-drop}
 use lib.Seq.{length-take-le, drop-drop}
 use Rattle.laws.specs.Refusals.{invalidRecordCount, invalidMagic, unsupportedVersion, crcMismatch, invalidLayout, badLength}
 use Rattle.laws.specs.Answers.{Answer, gives, refuses, must, then, toldNumber}
@@ -80,14 +80,19 @@ told-decoded row a w = ap toldRecord w ∙ go (eqb (length row) 48) (recordOf ro
     go true r = refl
     go false r = refl
 
-pub told-encoded : (flight sequence : ℕ) (records : List FlightRecord) (count : ℕ) (a : EncodedPage)
-    → a ≡ pageAnswer (encoded flight sequence records count) → toldPage a ≡ encoded flight sequence records count
-unfolding encoded
-told-encoded flight sequence records count a w = ap toldPage w ∙ go (leb count 5) (encodedPage flight sequence (take count records))
+pub told-rows : (flight sequence : ℕ) (rows : List ℕ) (count : ℕ) (a : EncodedPage)
+    → a ≡ pageAnswer (encodedRows flight sequence rows count) → toldPage a ≡ encodedRows flight sequence rows count
+unfolding encodedRows encoded
+told-rows flight sequence rows count a w =
+    ap toldPage w ∙ go (eqb (length rows) 240) (leb count 5) (encodedPage flight sequence (take count (recordsIn 5 rows)))
   where
-    go : (b : Bool) (p : List ℕ) → toldPage (pageAnswer (must b invalidRecordCount (gives p))) ≡ must b invalidRecordCount (gives p)
-    go true p = refl
-    go false p = refl
+    out : Bool → Bool → List ℕ → Answer (List ℕ)
+    out b c p = must b badLength (must c invalidRecordCount (gives p))
+
+    go : (b c : Bool) (p : List ℕ) → toldPage (pageAnswer (out b c p)) ≡ out b c p
+    go true true p = refl
+    go true false p = refl
+    go false c p = refl
 
 -- every refusal of a page's record has a number above 0 and no fault byte
 record-of-page : (b₁ b₂ b₃ b₄ b₅ : Bool) (m : PageMetadata) (test : PageMetadata → Bool) (r : FlightRecord)
@@ -134,13 +139,13 @@ five-records rows a b c d e p q r s t =
     let w : drop 48 (drop 144 rows) ≡ drop 192 rows = drop-drop 48 144 rows in
     rw (p, q, r, s, t, u, v, w) refl
 
-pub rows-refused : (flight sequence : ℕ) (rows : List ℕ) (count : ℕ) (page : List ℕ) → (length rows ≡ 240 → ⊥)
-    → heldAs badLength page ≡ encodedRows flight sequence rows count
+pub rows-refused : (flight sequence : ℕ) (rows : List ℕ) (count : ℕ) → (length rows ≡ 240 → ⊥)
+    → record { refused = badLength; page = replicate 256 0 } ≡ pageAnswer (encodedRows flight sequence rows count)
 unfolding encodedRows
-rows-refused flight sequence rows count page n = rw (ne-eqb (length rows) 240 n) refl
+rows-refused flight sequence rows count n = rw (ne-eqb (length rows) 240 n) refl
 
 pub rows-encoded : (flight sequence : ℕ) (rows : List ℕ) (count : ℕ) (records : List FlightRecord) (a : EncodedPage) → length rows ≡ 240
-    → records ≡ recordsIn 5 rows → a ≡ pageAnswer (encoded flight sequence records count) → toldPage a ≡ encodedRows flight sequence rows count
+    → records ≡ recordsIn 5 rows → a ≡ pageAnswer (encoded flight sequence records count)
+    → a ≡ pageAnswer (encodedRows flight sequence rows count)
 unfolding encodedRows
-rows-encoded flight sequence rows count records a l e w =
-    told-encoded flight sequence records count a w ∙ rw (eq-eqb (length rows) 240 l, e) refl
+rows-encoded flight sequence rows count records a l e w = w ∙ rw (eq-eqb (length rows) 240 l, e) refl

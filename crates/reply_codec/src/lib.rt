@@ -149,7 +149,7 @@ fn records_of(rows: &[u8]) -> [FlightRecord; blackbox::RECORDS_PER_PAGE]
 
 // A page of the first `count` of five rows of 48 bytes; rows of another length are refused 17, more than five records 1.
 pub fn encode_rows(flight_id: u32, page_sequence: u32, rows: &[u8], count: usize) -> EncodedPage
-    ensures { λ r. ⌜ toldPage r ≡ encodedRows «flight_id» «page_sequence» (now (rows .entry)) count ⌝ }
+    ensures { λ r. ⌜ r ≡ Page.pageAnswer (encodedRows «flight_id» «page_sequence» (now (rows .entry)) count) ⌝ }
 {
     if rows.len() != blackbox::PAGE_DATA_LEN {
         return EncodedPage {

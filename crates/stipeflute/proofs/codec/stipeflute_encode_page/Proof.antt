@@ -1,5 +1,6 @@
 -- `stipeflute::codec::stipeflute_encode_page` meets its contract. Assumes nothing.
 use Rattle.reply.proofs.Rows.{ends, row-through}
+use Rattle.reply_codec.proofs.CodecWays.{told-rows}
 use borrow.Author.Needs.{needs}
 use Rattle.stipeflute.proofs.codec.stipeflute_encode_page.Statement.{statement}
 use Rattle.stipeflute.proofs.codec.stipeflute_encode_page.Tie as tie
@@ -14,7 +15,7 @@ same-length : tie.Need-same-length
 same-length c = search needs
 
 returns : tie.Need-returns
-returns c = ends (search (row-through, needs))
+returns c = ends (search (row-through, told-rows, needs))
 
 pub stipeflute-encode-page-spec : {M : Type 1} → statement M
 stipeflute-encode-page-spec =
