@@ -1,3 +1,4 @@
 pub mod Counted
+pub mod Limit
 pub mod OnlyLog
 pub mod Refused

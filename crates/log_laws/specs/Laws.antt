@@ -1,13 +1,16 @@
 -- What document 01 says of drain and write_pending beyond each call's own answer, as statements; proofs/ shows them.
-use Prim.Native.Nat.{ℕ, _+_, _*_}
+use Prim.Native.Nat.{ℕ, _+_, _*_, _≤_}
 use mathlib.Core.Path.{_≡_}
-use mathlib.Core.Bool.{true, false}
+use mathlib.Core.Bool.{true, false, cond}
 use mathlib.Core.List.{List}
-use lib.ListN.{length}
+use mathlib.Core.Logic.{_⊎_}
+use lib.ListN.{drop}
 use Rattle.layout.specs.Layout.{logStart, pagesIn}
 use Rattle.store.specs.Laws.{OnlyAt}
+use Rattle.queue.specs.Queue.{recordsHeld}
 use Rattle.queue.specs.declared.RecordQueue.{RecordQueue}
 use Rattle.log_state.specs.declared.LogWriter.{LogWriter}
+use Rattle.log_writer.specs.Pass.{drainOrder}
 use Rattle.log_writer.specs.Calls.{drained, afterDrain, pageWritten, afterWrite}
 use Rattle.log_writer.specs.Laws.{BothSound}
 use Rattle.log_writer.specs.declared.DrainOrder.{DrainOrder}
@@ -25,6 +28,37 @@ abbrev pub DrainCounts : Type 0
 DrainCounts =
     (order : DrainOrder) (capacity : ℕ) (image keep : List ℕ) (w : LogWriter) (q : RecordQueue)
     → PagesCounted w (order .succeed) (drained order capacity image keep w q)
+
+-- ---- records
+
+-- the first records of a queue left it, at most so many, and the others stay in their order
+pub record Taken (most : ℕ) (q u : RecordQueue) : Type 0 where
+  pub count : ℕ
+  pub few : count ≤ most
+  pub held : q .held ≡ count + u .held
+  pub others : recordsHeld u ≡ drop count (recordsHeld q)
+
+-- "at most 16 records a pass", which is the order's limit; "A pass that isn't writable drops one record." A cut empties the queue
+abbrev pub DrainTakesAtMost : Type 0
+DrainTakesAtMost =
+    (order : DrainOrder) (capacity : ℕ) (image keep : List ℕ) (w : LogWriter) (q : RecordQueue)
+    → drained order capacity image keep w q .cut ≡ false
+    → Taken (cond (w .writable) (order .limit) 1) q (drained order capacity image keep w q .queue)
+
+-- an order with another limit
+abbrev pub limited : ℕ → DrainOrder → DrainOrder
+limited limit order = drainOrder limit (order .armed) (order .«record_while_disarmed») (order .succeed) (order .next)
+
+-- the limit is of the records that a writable log takes: where it isn't writable or no record is there, a pass is the same at any limit,
+-- and programs nothing
+pub record SameAt (limit : ℕ) (order : DrainOrder) (capacity : ℕ) (image keep : List ℕ) (w : LogWriter) (q : RecordQueue) : Type 0 where
+  pub answer : drained (limited limit order) capacity image keep w q ≡ drained order capacity image keep w q
+  pub unprogrammed : afterDrain order capacity image keep w q ≡ image
+
+abbrev pub AtAnyLimit : Type 0
+AtAnyLimit =
+    (limit : ℕ) (order : DrainOrder) (capacity : ℕ) (image keep : List ℕ) (w : LogWriter) (q : RecordQueue)
+    → (w .writable ≡ false) ⊎ (q .held ≡ 0) → SameAt limit order capacity image keep w q
 
 -- ---- the image
 
@@ -60,3 +94,13 @@ WriteRefused =
     → (pageWritten capacity image keep next w q succeed .refused ≡ 0 → ⊥)
     → Unaltered w (pageWritten capacity image keep next w q succeed .writer) q
     (pageWritten capacity image keep next w q succeed .queue) image (afterWrite capacity image keep next w succeed)
+
+-- ---- a limit of 0
+
+-- a writable log with records to take stays as it was at a limit of 0
+abbrev pub LimitOfNone : Type 0
+LimitOfNone =
+    (order : DrainOrder) (capacity : ℕ) (image keep : List ℕ) (w : LogWriter) (q : RecordQueue)
+    → order .limit ≡ 0 → w .writable ≡ true → (q .held ≡ 0 → ⊥)
+    → Unaltered w (drained order capacity image keep w q .writer) q (drained order capacity image keep w q .queue) image
+    (afterDrain order capacity image keep w q)
