@@ -3,7 +3,7 @@ use Prim.Native.Nat.{ℕ, _+_, _-_, _%_, _≤_, _<_}
 use mathlib.Core.Path.{_≡_, refl, sym, ap, _∙_}
 use mathlib.Core.Bool.{Bool, true, false, cond, not}
 use native.Mathlib.Omega.{arith}
-use borrow.Author.Tests.{eq-eqb, ne-eqb, le-leb, lt-leb, lt-ltb, eqb-true, leb-true, ltb-true, not-true, not-false}
+use borrow.Author.Tests.{eq-eqb, ne-eqb, le-leb, lt-leb, lt-ltb, le-ltb, eqb-true, leb-true, ltb-true, not-true, not-false}
 use lib.Dec.{eqb, leb, ltb}
 use Rattle.laws.specs.Refusals.{invalidLayout, badLength}
 use Rattle.laws.specs.Answers.{Answer, gives, refuses, refusal, must, toldDone}
@@ -24,14 +24,22 @@ pub on-lengths : {A : Type 0} (c n l w : ℕ) (rest : Answer A) → validCapacit
 unfolding onLengths
 on-lengths c n l w rest v h k = on-image c n _ v h ∙ rw (eq-eqb l w k) refl
 
+-- both tests pass, or one number refuses whatever would follow: 5 where the capacity is bad, whatever the length is
+decided : {R : Type 0} (c n : ℕ) → (validCapacity c ≡ true → n ≡ c → R)
+    → ((x : ℕ) → ((A : Type 0) (rest : Answer A) → onImage c n rest ≡ refuses x 0) → R) → R
+unfolding onImage
+decided {R} c n passes refused = go (validCapacity c) (eqb n c) refl refl
+  where
+    go : (p q : Bool) → validCapacity c ≡ p → eqb n c ≡ q → R
+    go true true v l = passes v (eqb-true n c l)
+    go true false v l = refused badLength (λ A rest. rw (v, l) refl)
+    go false q v l = refused invalidLayout (λ A rest. rw v refl)
+
 -- a value got through the tests
 pub held-image : {A : Type 0} (c n : ℕ) (rest : Answer A) (a : A) → onImage c n rest ≡ gives a
     → (validCapacity c ≡ true) × (n ≡ c) × (rest ≡ gives a)
-unfolding onImage
-held-image c n rest a e =
-    let v = passed (validCapacity c) invalidLayout _ a e in
-    let l = passed (eqb n c) badLength rest a (v .1) in
-    (v .0, eqb-true n c (l .0), l .1)
+held-image {A} c n rest a e =
+    decided c n (λ v l. (v, l, sym (on-image c n rest v l) ∙ e)) (λ x f. absurd (no-refusal (sym (f A rest) ∙ e)))
 
 pub held-lengths : {A : Type 0} (c n l w : ℕ) (rest : Answer A) (a : A) → onLengths c n l w rest ≡ gives a
     → (validCapacity c ≡ true) × (n ≡ c) × (l ≡ w) × (rest ≡ gives a)
@@ -42,29 +50,22 @@ held-lengths c n l w rest a e =
     (i .0, i .1, eqb-true l w (p .0), p .1)
 
 -- a refusal of the tests alone is one of the whole
-refused-image : {A B : Type 0} (c n : ℕ) (one : A) (rest : Answer B) (x y : ℕ) → refuses x y ≡ onImage c n (gives one)
-    → refuses x y ≡ onImage c n rest
-unfolding onImage
-refused-image {A} {B} c n one rest x y e = go (validCapacity c) (eqb n c) e
+refused-image : {A B : Type 0} (c n : ℕ) (one : Answer A) (rest : Answer B) (x y : ℕ) → (refuses x y ≡ one → refuses x y ≡ rest)
+    → refuses x y ≡ onImage c n one → refuses x y ≡ onImage c n rest
+refused-image {A} {B} c n one rest x y k e =
+    decided c n (λ v l. k (e ∙ on-image c n one v l) ∙ sym (on-image c n rest v l)) (λ z f. refused z (e ∙ f A one) ∙ sym (f B rest))
   where
-    go : (p q : Bool) → refuses x y ≡ must p invalidLayout (must q badLength (gives one))
-        → refuses x y ≡ must p invalidLayout (must q badLength rest)
-    go true true h = absurd (no-refusal h)
-    go true false h = let s : x ≡ badLength = cc in let t : y ≡ 0 = cc in rw (s, t) refl
-    go false q h = let s : x ≡ invalidLayout = cc in let t : y ≡ 0 = cc in rw (s, t) refl
-
-three-tests : {A B : Type 0} (one : A) (rest : Answer B) (p q s : Bool) (x y : ℕ)
-    → refuses x y ≡ must p invalidLayout (must q badLength (must s badLength (gives one)))
-    → refuses x y ≡ must p invalidLayout (must q badLength (must s badLength rest))
-three-tests one rest true true true x y h = absurd (no-refusal h)
-three-tests one rest true true false x y h = let u : x ≡ badLength = cc in let v : y ≡ 0 = cc in rw (u, v) refl
-three-tests one rest true false s x y h = let u : x ≡ badLength = cc in let v : y ≡ 0 = cc in rw (u, v) refl
-three-tests one rest false q s x y h = let u : x ≡ invalidLayout = cc in let v : y ≡ 0 = cc in rw (u, v) refl
+    refused : (z : ℕ) → _≡_ {A = Answer A} (refuses x y) (refuses z 0) → _≡_ {A = Answer B} (refuses x y) (refuses z 0)
+    refused z h = let s : x ≡ z = cc in let t : y ≡ 0 = cc in rw (s, t) refl
 
 pub refused-lengths : {A B : Type 0} (c n l w : ℕ) (one : A) (rest : Answer B) (x y : ℕ) → refuses x y ≡ onLengths c n l w (gives one)
     → refuses x y ≡ onLengths c n l w rest
-unfolding onLengths onImage
-refused-lengths c n l w one rest x y e = three-tests one rest (validCapacity c) (eqb n c) (eqb l w) x y e
+unfolding onLengths
+refused-lengths c n l w one rest x y e = refused-image c n _ _ x y (go (eqb l w)) e
+  where
+    go : (q : Bool) → refuses x y ≡ must q badLength (gives one) → refuses x y ≡ must q badLength rest
+    go true h = absurd (no-refusal h)
+    go false h = let s : x ≡ badLength = cc in let t : y ≡ 0 = cc in rw (s, t) refl
 
 -- ---- checked_image
 
@@ -88,7 +89,7 @@ module _ (c n : ℕ) (b : Bool) (e : b ≡ validCapacity c) where
 
 module _ (c n : ℕ) (a : DoneAnswer) (e : toldDone a ≡ onImage c n (gives tt)) where
   pub image-refused : {A : Type 0} (rest : Answer A) (x : Refusal) → a ≡ Refused x → refuses (x .number) (x .fault) ≡ onImage c n rest
-  image-refused rest x w = refused-image c n tt rest (x .number) (x .fault) (sym (ap toldDone w) ∙ e)
+  image-refused rest x w = refused-image c n (gives tt) rest (x .number) (x .fault) (λ h. absurd (no-refusal h)) (sym (ap toldDone w) ∙ e)
 
   pub image-held : a ≡ Done → (validCapacity c ≡ true) × (n ≡ c)
   image-held w = let h = held-image c n (gives tt) tt (sym e ∙ ap toldDone w) in (h .0, h .1)
@@ -138,9 +139,9 @@ pub past-end : (c a n : ℕ) → c < a + n → false ≡ inOnePage c a n
 unfolding inOnePage
 past-end c a n h = rw (lt-leb (a + n) c h) refl
 
-pub before-end : (c a n : ℕ) → a + n ≤ c → leb (a % 256 + n) 256 ≡ inOnePage c a n
+pub crosses : (c a n : ℕ) → a + n ≤ c → 256 < a % 256 + n → false ≡ inOnePage c a n
 unfolding inOnePage
-before-end c a n h = rw (le-leb (a + n) c h) refl
+crosses c a n h l = rw (le-leb (a + n) c h, lt-leb (a % 256 + n) 256 l) refl
 
 sector-at : (c a : ℕ) (p q : Bool) → ltb a c ≡ p → eqb (a % 4096) 0 ≡ q → cond p q false ≡ true → (a < c) × (a % 4096 ≡ 0)
 sector-at c a true true e f h = (ltb-true a c e, eqb-true (a % 4096) 0 f)
@@ -150,6 +151,14 @@ sector-at c a false q e f h = absurd (let z : _≡_ {A = ℕ} 0 1 = cc in omega 
 pub sector : (c a : ℕ) → isSector c a ≡ true → (a < c) × (a % 4096 ≡ 0)
 unfolding isSector
 sector c a h = sector-at c a (ltb a c) (eqb (a % 4096) 0) refl refl h
+
+pub past-sectors : (c a : ℕ) → c ≤ a → false ≡ isSector c a
+unfolding isSector
+past-sectors c a h = rw (le-ltb a c h) refl
+
+pub inside-sector : (c a : ℕ) → a < c → (a % 4096 ≡ 0 → ⊥) → false ≡ isSector c a
+unfolding isSector
+inside-sector c a h n = rw (lt-ltb a c h, ne-eqb (a % 4096) 0 n) refl
 
 pub is-sector : (c a : ℕ) → a < c → a % 4096 ≡ 0 → isSector c a ≡ true
 unfolding isSector

@@ -75,7 +75,10 @@ fn in_one_page(capacity_bytes: u32, address: u32, len: usize) -> bool
     if capacity - at < len {
         return false;
     }
-    at % PAGE_LEN + len <= PAGE_LEN
+    if PAGE_LEN < at % PAGE_LEN + len {
+        return false;
+    }
+    true
 }
 
 // Whether an address is that of a sector of the image.
@@ -85,7 +88,10 @@ fn is_sector(capacity_bytes: u32, address: u32) -> bool
     if capacity_bytes <= address {
         return false;
     }
-    address % 4096 == 0
+    if address % 4096 != 0 {
+        return false;
+    }
+    true
 }
 
 // Bytes of one page, from an address on, read into `output`; a fault byte for them is refused 6.

@@ -1,4 +1,6 @@
 -- `store::checked_mask` meets its contract. Assumes nothing.
+use mathlib.Core.Path.{_≡_}
+use native.Mathlib.Omega.{arith}
 use Rattle.store.proofs.Checks.{no-image, other-lengths, its-lengths}
 use borrow.Author.Needs.{needs}
 use Rattle.store.proofs.checked_mask.Statement.{statement}
@@ -17,13 +19,17 @@ refused-requires : tie.Need-refused-requires
 refused-requires c κs = search needs
 
 returns : tie.Need-returns
-returns c = search (other-lengths, needs)
+returns c =
+    let other : c .before .before .before .before .before .args .keep-len ≡ 256 → ⊥ = λ e. omega arith in
+    search (other-lengths, other, needs)
 
 returns-2 : tie.Need-returns-2
 returns-2 c = search (no-image, needs)
 
 returns-3 : tie.Need-returns-3
-returns-3 c = search (its-lengths, needs)
+returns-3 c =
+    let its : c .before .before .before .before .args .keep-len ≡ 256 = omega arith in
+    search (its-lengths, its, needs)
 
 pub checked-mask-spec : {M : Type 1} → statement M
 checked-mask-spec =
