@@ -2,3 +2,4 @@ pub mod Counted
 pub mod Limit
 pub mod OnlyLog
 pub mod Refused
+pub mod Waiting

@@ -1,5 +1,5 @@
 -- How many records a drain takes: a turn takes one at most, so its turns take no more than the limit. Assumes nothing.
-use Prim.Native.Nat.{ℕ, zero, suc, _+_, _-_, _≤_, _%_}
+use Prim.Native.Nat.{ℕ, zero, suc, _+_, _-_, _%_}
 use mathlib.Core.Path.{_≡_, refl, sym, ap, _∙_}
 use mathlib.Core.Bool.{Bool, true, false, cond}
 use mathlib.Core.List.{List}
@@ -19,10 +19,9 @@ use Rattle.assembler.proofs.Laws.{never}
 use Rattle.queue.specs.Queue.{dequeue, oldest, withoutOldest, dequeued, recordsFrom}
 use Rattle.queue.specs.declared.RecordQueue.{RecordQueue}
 use Rattle.queue.specs.declared.Dequeued.{Dequeued}
-use Rattle.log_state.specs.Writer.{fetched, ended, logging}
-use Rattle.log_state.specs.declared.LogWriter.{LogWriter}
-use Rattle.log_writer.specs.Pass.{withWriter, halted, failing, put, severed, busyNow, logs, counted, takingIn, takingRecord, programming, fetchedPass, turn}
-use Rattle.log_writer.specs.Pass.{turns, turnsImage, droppingIt, dropping, onEmptyQueue, begin, drainPass, drainImage}
+use Rattle.log_state.specs.Writer.{ended, logging}
+use Rattle.log_writer.specs.Pass.{withWriter, halted, failing, put, severed, busyNow, logs, counted, takingRecord, programming, fetchedPass, turn}
+use Rattle.log_writer.specs.Pass.{turns, turnsImage, dropping, onEmptyQueue, begin, drainPass, drainImage}
 use Rattle.log_writer.specs.Calls.{drainTold, drained, afterDrain}
 use Rattle.log_writer.specs.declared.Pass.{Pass}
 use Rattle.log_writer.specs.declared.DrainOrder.{DrainOrder}

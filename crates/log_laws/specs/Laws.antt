@@ -16,6 +16,8 @@ use Rattle.log_writer.specs.Laws.{BothSound}
 use Rattle.log_writer.specs.declared.DrainOrder.{DrainOrder}
 use Rattle.log_writer.specs.declared.NextProgram.{NextProgram}
 use Rattle.log_writer.specs.declared.DrainAnswer.{DrainAnswer}
+use Rattle.log_writer.specs.declared.WriteAnswer.{WriteAnswer}
+use Rattle.log_writer.specs.declared.PageWrite.the-variants.{RegionFull, ProgramFailed}
 
 -- ---- pages_written
 
@@ -94,6 +96,23 @@ WriteRefused =
     → (pageWritten capacity image keep next w q succeed .refused ≡ 0 → ⊥)
     → Unaltered w (pageWritten capacity image keep next w q succeed .writer) q
     (pageWritten capacity image keep next w q succeed .queue) image (afterWrite capacity image keep next w succeed)
+
+-- ---- outcomes that are no refusals
+
+-- a page waits: the one that waited before, or else the one that was ready
+pub record KeepsWaiting (w : LogWriter) (answer : WriteAnswer) : Type 0 where
+  pub not-refused : answer .refused ≡ 0
+  pub waits : answer .writer .«has_pending» ≡ true
+  pub page : ((w .«has_pending» ≡ true) × (answer .writer .pending ≡ w .pending))
+      ⊎ ((w .«has_pending» ≡ false) × (w .assembler .«page_ready» ≡ true) × (answer .writer .pending ≡ w .assembler .«ready_page»))
+
+-- "RegionFull and ProgramFailed are outcomes of write_pending, not refusals; both keep the page waiting."
+abbrev pub FailureKeepsWaiting : Type 0
+FailureKeepsWaiting =
+    (capacity : ℕ) (image keep : List ℕ) (next : NextProgram) (w : LogWriter) (q : RecordQueue) (succeed : ℕ)
+    → (pageWritten capacity image keep next w q succeed .outcome ≡ RegionFull)
+    ⊎ (pageWritten capacity image keep next w q succeed .outcome ≡ ProgramFailed)
+    → KeepsWaiting w (pageWritten capacity image keep next w q succeed)
 
 -- ---- a limit of 0
 
