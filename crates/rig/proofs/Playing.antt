@@ -7,12 +7,12 @@ use mathlib.Core.List.{List, [], _∷_, _++_, append-assoc, append-nil}
 use native.Mathlib.Omega.{arith}
 use native.Mathlib.Numerals.{add-one}
 use borrow.Author.Tests.{eq-eqb, ne-eqb, not-true, not-false}
-use lib.Dec.{eqb}
 use lib.ListN.{length, take, drop, length-append}
 use lib.Seq.{take-all, length-take-le, take-length, take-at}
-use Rattle.laws.specs.Answers.{Answer, gives, refuses, must, refusal, toldDone}
+use Rattle.laws.specs.Answers.{Answer, gives, refuses, refusal, toldDone}
 use Rattle.laws.specs.Refusals.{badLength}
 use Rattle.laws.specs.declared.Refusal.{Refusal}
+use Rattle.layout.specs.Layout.{validCapacity}
 use Rattle.words.specs.Words.{leBytes, placed}
 use Rattle.words.proofs.Numbers.{placed-fits}
 use Rattle.store.specs.Store.{leaves, onImage}
@@ -154,39 +154,33 @@ module _ (c : ℕ) (image script output : List ℕ) where
     no-image x w = refused-ends x (λ A rest. image-refused c (length image) a e _ x w)
 
     module _ (w : a ≡ Done) (b : Bool) (eb : b ≡ isScript script) where
-      -- the test of the output
-      abbrev fits : (A : Type 0) → Answer A → Answer A
-      fits A rest = must (eqb (length output) (rowsIn script * 40)) badLength rest
-
-      passed : (A : Type 0) (rest : Answer A) → tested A rest ≡ must (isScript script) badLength (fits A rest)
-      unfolding onScript
-      passed A rest = let h = image-held c (length image) a e w in on-image c (length image) _ (h .0) (h .1)
+      held : (validCapacity c ≡ true) × (length image ≡ c)
+      held = image-held c (length image) a e w
 
       refused-as : (A : Type 0) (x : Refusal) (rest : Answer A) → x ≡ refusal badLength 0 → refuses badLength 0 ≡ rest
           → refuses (x .number) (x .fault) ≡ rest
       refused-as A x rest ex er = ap {B = Answer A} (λ (y : Refusal). refuses (y .number) (y .fault)) ex ∙ er
 
       pub no-script : (x : Refusal) → not b ≡ true → x ≡ refusal badLength 0 → Ended (toldDone (Refused x)) image output
+      unfolding onScript
       no-script x n ex =
           refused-ends x
           (λ A rest. refused-as A x (tested A rest) ex
-          (sym (passed A rest ∙ ap (λ (t : Bool). must t badLength (fits A rest)) (sym eb ∙ not-true b n))))
+          (sym (on-image c (length image) _ (held .0) (held .1) ∙ simp (sym eb ∙ not-true b n))))
 
       module _ (n : not b ≡ false) where
-        passed-script : (A : Type 0) (rest : Answer A) → tested A rest ≡ fits A rest
-        passed-script A rest =
-            passed A rest ∙ ap (λ (t : Bool). must t badLength (fits A rest)) (sym eb ∙ not-false b n)
-
         pub other-output : (x : Refusal) → (length output ≡ rowsIn script * 40 → ⊥) → x ≡ refusal badLength 0
             → Ended (toldDone (Refused x)) image output
+        unfolding onScript
         other-output x h ex =
             refused-ends x
             (λ A rest. refused-as A x (tested A rest) ex
-            (sym (passed-script A rest ∙ ap (λ (t : Bool). must t badLength rest) (ne-eqb (length output) (rowsIn script * 40) h))))
+            (sym (on-image c (length image) _ (held .0) (held .1) ∙ simp (sym eb ∙ not-false b n, ne-eqb (length output) (rowsIn script * 40) h))))
 
         pub plays-it : (image′ output′ : List ℕ) → length output ≡ rowsIn script * 40
             → image′ ≡ playsImage c (operations script) unpowered image → output′ ≡ tells c (operations script) unpowered image
             → Ended (toldDone Done) image′ output′
+        unfolding onScript
         plays-it image′ output′ h em eo =
             record {
               answer = sym (all (Unit {0}) (gives tt));
@@ -195,4 +189,4 @@ module _ (c : ℕ) (image script output : List ℕ) where
             }
           where
             all : (A : Type 0) (rest : Answer A) → tested A rest ≡ rest
-            all A rest = passed-script A rest ∙ ap (λ (t : Bool). must t badLength rest) (eq-eqb (length output) (rowsIn script * 40) h)
+            all A rest = on-image c (length image) _ (held .0) (held .1) ∙ simp (sym eb ∙ not-false b n, eq-eqb (length output) (rowsIn script * 40) h)
