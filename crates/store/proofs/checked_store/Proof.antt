@@ -1,4 +1,7 @@
 -- `store::checked_store` meets its contract. Assumes nothing.
+use Prim.Native.Nat.{_/_}
+use mathlib.Core.Path.{_≡_}
+use native.Mathlib.Omega.{arith}
 use Rattle.store.proofs.Checks.{no-image, other-lengths, its-lengths}
 use borrow.Author.Needs.{needs}
 use Rattle.store.proofs.checked_store.Statement.{statement}
@@ -17,13 +20,19 @@ refused-requires : tie.Need-refused-requires
 refused-requires c κs = search needs
 
 returns : tie.Need-returns
-returns c = search (other-lengths, needs)
+returns c =
+    let s = c .before .before .before .before .before .args in
+    let other : s .faults-len ≡ s .capacity-bytes / 256 → ⊥ = λ e. omega arith in
+    search (other-lengths, other, needs)
 
 returns-2 : tie.Need-returns-2
 returns-2 c = search (no-image, needs)
 
 returns-3 : tie.Need-returns-3
-returns-3 c = search (its-lengths, needs)
+returns-3 c =
+    let s = c .before .before .before .before .args in
+    let its : s .faults-len ≡ s .capacity-bytes / 256 = omega arith in
+    search (its-lengths, its, needs)
 
 pub checked-store-spec : {M : Type 1} → statement M
 checked-store-spec =
