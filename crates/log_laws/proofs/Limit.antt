@@ -1,5 +1,5 @@
 -- How many records a drain takes: a turn takes one at most, so its turns take no more than the limit. Assumes nothing.
-use Prim.Native.Nat.{ℕ, zero, suc, _+_, _-_, _%_}
+use Prim.Native.Nat.{ℕ, zero, suc, _+_, _-_, _%_, _≤_}
 use mathlib.Core.Path.{_≡_, refl, sym, ap, _∙_}
 use mathlib.Core.Bool.{Bool, true, false, cond}
 use mathlib.Core.List.{List}
@@ -28,12 +28,16 @@ use Rattle.log_writer.specs.declared.DrainOrder.{DrainOrder}
 use Rattle.log_writer.specs.declared.DrainAnswer.{DrainAnswer}
 use Rattle.log_writer.specs.declared.NextProgram.{NextProgram}
 use Rattle.log_writer.specs.declared.NextProgram.the-variants.{Busy, Fault, Cut}
-use Rattle.log_laws.specs.Laws.{Taken, DrainTakesAtMost, limited, AtAnyLimit, LimitOfNone}
+use Rattle.log_laws.specs.Laws.{Taken, mostTaken, DrainTakesAtMost, limited, NoneHeld, AtAnyLimit, LimitOfNone}
 
 -- ---- what leaves a queue
 
 none-taken : (n : ℕ) (q : RecordQueue) → Taken n q q
 none-taken n q = record { count = 0; few = omega arith; held = omega arith; others = refl }
+
+-- a bound that allows more
+taken-within : (m n : ℕ) (q u : RecordQueue) → m ≤ n → Taken m q u → Taken n q u
+taken-within m n q u h t = record { count = t .count; few = omega (arith, t .few); held = t .held; others = t .others }
 
 taken-then : (n : ℕ) (a b c : RecordQueue) → Taken 1 a b → Taken n b c → Taken (suc n) a c
 taken-then n a b c x y =
@@ -66,6 +70,9 @@ record Steps (n : ℕ) (p q : Pass) : Type 0 where
 
 still : (n : ℕ) (p q : Pass) → q .cut ≡ p .cut → q .queue ≡ p .queue → Steps n p q
 still n p q c e = record { uncut = λ h. sym c ∙ h; takes = λ _. rw e (none-taken n (p .queue)) }
+
+within : (m n : ℕ) (p q : Pass) → m ≤ n → Steps m p q → Steps n p q
+within m n p q h s = record { uncut = s .uncut; takes = λ e. taken-within m n (p .queue) (q .queue) h (s .takes e) }
 
 steps-then : (n : ℕ) (p q r : Pass) → Steps 1 p q → Steps n q r → Steps (suc n) p r
 steps-then n p q r x y =
@@ -126,7 +133,7 @@ turns-steps pages order (suc n) p = go (turns-steps pages order n (turn pages or
     go ih true = steps-then n p (turn pages order p) rest (turn-steps pages order p) ih
     go ih false = still (suc n) p p refl refl
 
-drain-steps : (pages : ℕ) (order : DrainOrder) (p : Pass) → Steps (cond (p .writer .writable) (order .limit) 1) p (drainPass pages order p)
+drain-steps : (pages : ℕ) (order : DrainOrder) (p : Pass) → Steps (mostTaken (p .writer .writable) (order .limit)) p (drainPass pages order p)
 unfolding drainPass dropping onEmptyQueue counted
 drain-steps pages order p = go (p .writer .writable) (eqb (p .queue .held) 0) (order .«record_while_disarmed») (order .armed)
   where
@@ -138,13 +145,13 @@ drain-steps pages order p = go (p .writer .writable) (eqb (p .queue .held) 0) (o
     drops false e = rw e (still 1 p p refl refl)
 
     go : (x y u v : Bool)
-        → Steps (cond x (order .limit) 1) p
+        → Steps (mostTaken x (order .limit)) p
         (cond x (cond y (cond u p (cond v p (counted p (p .queue) (ended (p .writer))))) (turns pages order (order .limit) p)) (dropping p))
-    go true true true v = still (order .limit) p p refl refl
-    go true true false true = still (order .limit) p p refl refl
-    go true true false false = still (order .limit) p (counted p (p .queue) (ended (p .writer))) refl refl
-    go true false u v = turns-steps pages order (order .limit) p
-    go false y u v = drops (d .there) refl
+    go true true true v = still _ p p refl refl
+    go true true false true = still _ p p refl refl
+    go true true false false = still _ p (counted p (p .queue) (ended (p .writer))) refl refl
+    go true false u v = within (order .limit) _ p (turns pages order (order .limit) p) (omega arith) (turns-steps pages order (order .limit) p)
+    go false y u v = within 1 _ p (dropping p) (omega arith) (drops (d .there) refl)
 
 -- ---- the call
 
@@ -153,7 +160,7 @@ unfolding drained onLengths onImage
 drain-takes-at-most order c image keep w q = go (validCapacity c) (eqb (length image) c) (eqb (length keep) 256)
   where
     most : ℕ
-    most = cond (w .writable) (order .limit) 1
+    most = mostTaken (w .writable) (order .limit)
 
     p : Pass
     p = drainPass (pagesIn c) order (begin w q (order .succeed))
@@ -218,9 +225,9 @@ at-any-limit limit order c image keep w q h =
     p : Pass
     p = begin w q (order .succeed)
 
-    none : (w .writable ≡ false) ⊎ (q .held ≡ 0) → (w .writable ≡ false) ⊎ (eqb (q .held) 0 ≡ true)
+    none : (w .writable ≡ false) ⊎ NoneHeld q → (w .writable ≡ false) ⊎ (eqb (q .held) 0 ≡ true)
     none (inl e) = inl e
-    none (inr e) = inr (eq-eqb (q .held) 0 e)
+    none (inr e) = inr (eq-eqb (q .held) 0 (omega (arith, e)))
 
 no-turns : (pages : ℕ) (order : DrainOrder) (n : ℕ) (p : Pass) → n ≡ 0 → turns pages order n p ≡ p
 unfolding turns
@@ -240,20 +247,23 @@ limit-of-none order c image keep w q l e n =
       queue = ap (λ (r : Pass). told r .queue) idle ∙ go (validCapacity c) (eqb (length image) c) (eqb (length keep) 256) .1;
       image =
           unprogrammed c image keep (drainImage (pagesIn c) order keep p image)
-          (all-taken image image (turnsImage (pagesIn c) order keep (order .limit) p image) (w .writable) (eqb (q .held) 0) e (ne-eqb (q .held) 0 n)
-          ∙ no-turns-image (pagesIn c) order keep (order .limit) p image l);
+          (all-taken image image (turnsImage (pagesIn c) order keep (order .limit) p image) (w .writable) (eqb (q .held) 0) e some
+          ∙ no-turns-image (pagesIn c) order keep (order .limit) p image (omega (arith, l)));
     }
   where
     p : Pass
     p = begin w q (order .succeed)
+
+    some : eqb (q .held) 0 ≡ false
+    some = ne-eqb (q .held) 0 (λ z. n (omega (arith, z)))
 
     told : Pass → DrainAnswer
     told r = drainTold w q (onMask c (length image) (length keep) (gives r))
 
     idle : drainPass (pagesIn c) order p ≡ p
     idle =
-        all-taken (dropping p) (onEmptyQueue order p) (turns (pagesIn c) order (order .limit) p) (w .writable) (eqb (q .held) 0) e (ne-eqb (q .held) 0 n)
-        ∙ no-turns (pagesIn c) order (order .limit) p l
+        all-taken (dropping p) (onEmptyQueue order p) (turns (pagesIn c) order (order .limit) p) (w .writable) (eqb (q .held) 0) e some
+        ∙ no-turns (pagesIn c) order (order .limit) p (omega (arith, l))
 
     out : Bool → Bool → Bool → Answer Pass
     out x y z = must x invalidLayout (must y badLength (must z badLength (gives p)))

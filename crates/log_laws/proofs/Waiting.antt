@@ -20,7 +20,7 @@ use Rattle.log_writer.specs.declared.NextProgram.{NextProgram}
 use Rattle.log_writer.specs.declared.NextProgram.the-variants.{Busy, Fault, Cut}
 use Rattle.log_writer.specs.declared.PageWrite.{PageWrite}
 use Rattle.log_writer.specs.declared.PageWrite.the-variants.{Nothing, Written, RegionFull, ProgramFailed, PowerCut}
-use Rattle.log_laws.specs.Laws.{KeepsWaiting, FailureKeepsWaiting}
+use Rattle.log_laws.specs.Laws.{SamePage, KeepsWaiting, FailureKeepsWaiting}
 
 -- the two outcomes
 abbrev keeps : PageWrite → Bool
@@ -38,14 +38,9 @@ module _ (w : LogWriter) (q : RecordQueue) where
   v : LogWriter
   v = fetchedIfWritable w
 
-  -- the page that waits once a ready one was taken
-  Before : LogWriter → Type 0
-  Before u =
-      ((w .«has_pending» ≡ true) × (u .pending ≡ w .pending))
-      ⊎ ((w .«has_pending» ≡ false) × (w .assembler .«page_ready» ≡ true) × (u .pending ≡ w .assembler .«ready_page»))
-
-  waits-before : v .«has_pending» ≡ true → Before v
-  unfolding v Before fetchedIfWritable fetched taken
+  -- once a ready page was taken
+  waits-before : v .«has_pending» ≡ true → SamePage w v
+  unfolding v fetchedIfWritable fetched taken
   waits-before = go (w .writable) (w .«has_pending») (w .assembler .«page_ready») refl refl
     where
       out : Bool → Bool → Bool → LogWriter
@@ -55,14 +50,14 @@ module _ (w : LogWriter) (q : RecordQueue) where
           (fetching w (cond z (readyPage true (w .assembler .«ready_page») (withoutReady (w .assembler))) (readyPage false noPage (w .assembler)))))
           w
 
-      go : (x y z : Bool) → w .«has_pending» ≡ y → w .assembler .«page_ready» ≡ z → out x y z .«has_pending» ≡ true → Before (out x y z)
+      go : (x y z : Bool) → w .«has_pending» ≡ y → w .assembler .«page_ready» ≡ z → out x y z .«has_pending» ≡ true → SamePage w (out x y z)
       go true true z e r h = inl (h, refl)
       go true false true e r h = inr (e, r, refl)
       go true false false e r h = inl (h, refl)
       go false y z e r h = inl (h, refl)
 
   still-waits : v .«has_pending» ≡ true → (o : PageWrite) → KeepsWaiting w (writeAnswer 0 o v q)
-  unfolding v Before
+  unfolding v
   still-waits h o = record { not-refused = refl; waits = h; page = waits-before h }
 
   writing-keeps : (b : Bool) (next : NextProgram) → v .«has_pending» ≡ true → keeps (writing b next v q .outcome) ≡ true

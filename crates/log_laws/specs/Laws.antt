@@ -1,7 +1,7 @@
 -- What document 01 says of drain and write_pending beyond each call's own answer, as statements; proofs/ shows them.
 use Prim.Native.Nat.{ℕ, _+_, _*_, _≤_}
 use mathlib.Core.Path.{_≡_}
-use mathlib.Core.Bool.{true, false, cond}
+use mathlib.Core.Bool.{Bool, true, false, cond}
 use mathlib.Core.List.{List}
 use mathlib.Core.Logic.{_⊎_}
 use lib.ListN.{drop}
@@ -40,12 +40,16 @@ pub record Taken (most : ℕ) (q u : RecordQueue) : Type 0 where
   pub held : q .held ≡ count + u .held
   pub others : recordsHeld u ≡ drop count (recordsHeld q)
 
--- "at most 16 records a pass", which is the order's limit; "A pass that isn't writable drops one record." A cut empties the queue
+-- "at most 16 records a pass", which is the order's limit; "A pass that isn't writable drops one record."
+abbrev pub mostTaken : Bool → ℕ → ℕ
+mostTaken writable limit = cond writable limit 1
+
+-- a cut empties the queue
 abbrev pub DrainTakesAtMost : Type 0
 DrainTakesAtMost =
     (order : DrainOrder) (capacity : ℕ) (image keep : List ℕ) (w : LogWriter) (q : RecordQueue)
     → drained order capacity image keep w q .cut ≡ false
-    → Taken (cond (w .writable) (order .limit) 1) q (drained order capacity image keep w q .queue)
+    → Taken (mostTaken (w .writable) (order .limit)) q (drained order capacity image keep w q .queue)
 
 -- an order with another limit
 abbrev pub limited : ℕ → DrainOrder → DrainOrder
@@ -57,10 +61,13 @@ pub record SameAt (limit : ℕ) (order : DrainOrder) (capacity : ℕ) (image kee
   pub answer : drained (limited limit order) capacity image keep w q ≡ drained order capacity image keep w q
   pub unprogrammed : afterDrain order capacity image keep w q ≡ image
 
+abbrev pub NoneHeld : RecordQueue → Type 0
+NoneHeld q = q .held ≡ 0
+
 abbrev pub AtAnyLimit : Type 0
 AtAnyLimit =
     (limit : ℕ) (order : DrainOrder) (capacity : ℕ) (image keep : List ℕ) (w : LogWriter) (q : RecordQueue)
-    → (w .writable ≡ false) ⊎ (q .held ≡ 0) → SameAt limit order capacity image keep w q
+    → (w .writable ≡ false) ⊎ NoneHeld q → SameAt limit order capacity image keep w q
 
 -- ---- the image
 
@@ -99,12 +106,16 @@ WriteRefused =
 
 -- ---- outcomes that are no refusals
 
--- a page waits: the one that waited before, or else the one that was ready
+-- the page that waits is the one that waited before, or else the one that was ready
+abbrev pub SamePage : LogWriter → LogWriter → Type 0
+SamePage w v =
+    ((w .«has_pending» ≡ true) × (v .pending ≡ w .pending))
+    ⊎ ((w .«has_pending» ≡ false) × (w .assembler .«page_ready» ≡ true) × (v .pending ≡ w .assembler .«ready_page»))
+
 pub record KeepsWaiting (w : LogWriter) (answer : WriteAnswer) : Type 0 where
   pub not-refused : answer .refused ≡ 0
   pub waits : answer .writer .«has_pending» ≡ true
-  pub page : ((w .«has_pending» ≡ true) × (answer .writer .pending ≡ w .pending))
-      ⊎ ((w .«has_pending» ≡ false) × (w .assembler .«page_ready» ≡ true) × (answer .writer .pending ≡ w .assembler .«ready_page»))
+  pub page : SamePage w (answer .writer)
 
 -- "RegionFull and ProgramFailed are outcomes of write_pending, not refusals; both keep the page waiting."
 abbrev pub FailureKeepsWaiting : Type 0
@@ -120,6 +131,6 @@ FailureKeepsWaiting =
 abbrev pub LimitOfNone : Type 0
 LimitOfNone =
     (order : DrainOrder) (capacity : ℕ) (image keep : List ℕ) (w : LogWriter) (q : RecordQueue)
-    → order .limit ≡ 0 → w .writable ≡ true → (q .held ≡ 0 → ⊥)
+    → order .limit ≡ 0 → w .writable ≡ true → (NoneHeld q → ⊥)
     → Unaltered w (drained order capacity image keep w q .writer) q (drained order capacity image keep w q .queue) image
     (afterDrain order capacity image keep w q)
