@@ -151,8 +151,8 @@ fn codec(random: &mut Seeded) {
     );
 }
 
-/// A full log of the largest capacity: `flights` flights of as many pages each, `acknowledged` of them from the newest down.
-fn full_log(flights: u32, acknowledged: u32) -> Image {
+/// A full log of the largest capacity: `flights` flights of as many full pages each, `acknowledged` of them from the newest down.
+fn full_log(random: &mut Seeded, flights: u32, acknowledged: u32) -> Image {
     let mut image = Image::erased(16_777_216);
     let pages = image.pages();
     let ledger = image.ledger_mut();
@@ -162,7 +162,7 @@ fn full_log(flights: u32, acknowledged: u32) -> Image {
     }
     for index in 0..pages {
         let flight = (u64::from(index) * u64::from(flights) / u64::from(pages)) as u32 + 1;
-        let page = blackbox::encode_page(flight, index, &[]).unwrap();
+        let page = blackbox::encode_page(flight, index, &images::records(random, 5)).unwrap();
         image.page_mut(index).copy_from_slice(&page);
     }
     image.used = pages;
@@ -407,14 +407,14 @@ fn census_time(program: &str, image: &[u8]) -> f64 {
 }
 
 /// The census program on a log of 176 flights, and on an image that it refuses, which is what starting it costs.
-fn census() {
+fn census(random: &mut Seeded) {
     let Ok(program) = std::env::var("STIPEFLUTE_CENSUS") else {
         println!("census: not measured, since its program is not at hand (rt check run_census makes it, for x86-64)");
         return;
     };
     let mut image = Image::erased(61_440);
     for index in 0..image.pages() {
-        let page = blackbox::encode_page(index + 1, index, &[]).unwrap();
+        let page = blackbox::encode_page(index + 1, index, &images::records(random, 5)).unwrap();
         image.page_mut(index).copy_from_slice(&page);
     }
     let (whole, refused) = (census_time(&program, &image.bytes), census_time(&program, &[0; 100]));
@@ -426,15 +426,15 @@ fn main() {
     println!("| call | input | the Rust | Stipeflute | times as fast |");
     println!("|---|---|---|---|---|");
     codec(&mut random);
-    let log = full_log(1000, 0);
-    image_calls(&log, "a full image of 16 MiB, 1,000 flights");
+    let log = full_log(&mut random, 1000, 0);
+    image_calls(&log, "a full image of 16 MiB, 1,000 flights of full pages");
     acknowledgement(&log, "the same, a flight of 65 pages");
     sync_calls(&log, "the same, none acknowledged");
-    sync_calls(&full_log(1000, 1000), "the same, all acknowledged");
+    sync_calls(&full_log(&mut random, 1000, 1000), "the same, all acknowledged");
     programs(&mut random);
     drain(&mut random);
     println!();
     limit(&mut random);
     println!();
-    census();
+    census(&mut random);
 }
