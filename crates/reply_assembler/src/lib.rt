@@ -110,7 +110,7 @@ fn play_row(assembler: PageAssembler, row: &[u8]) -> Played
 }
 
 // What the last call of a script answers.
-pub fn play(script: &[u8]) -> Played
+fn play(script: &[u8]) -> Played
     ensures { λ r. ⌜ r ≡ playScript (now (script .entry)) ⌝ }
 {
     let rows = script.len() / 54;
