@@ -248,6 +248,9 @@ impl Default for Player {
 
 // ---- making a list
 
+/// A log whose newest flight has the largest number.
+const LAST_FLIGHT: [&str; 3] = ["image 20480", "pages 0 2 4294967295 5", "scan"];
+
 /// Calls without an image, images with questions, and writers' lives.
 pub fn make(seed: u64, images: u64, lives: u64) -> Vec<String> {
     let mut lines = Vec::new();
@@ -257,6 +260,7 @@ pub fn make(seed: u64, images: u64, lives: u64) -> Vec<String> {
     for index in 0..images {
         make_image(&mut Seeded::new(seed, "images", index), &mut lines);
     }
+    lines.extend(LAST_FLIGHT.map(String::from));
     for index in 0..lives {
         make_life(&mut Seeded::new(seed, "lives", index), &mut lines, index % 3 == 2);
     }
