@@ -54,5 +54,5 @@ module _ (w : LogWriter) (q : RecordQueue) (r before stored : FlightRecord) (pla
           offer-does c row image (bench w q) y ey told offers
           (ap (offering w) (offers-there q r before stored place ep eb es ∙ ap (offered q) er))
           in
-          leads-again c script image₀ (bench w q) image output i h told image (tellsOf told) output′ n (does .0) (does .1) refl
+          leads-again c script image₀ (bench w q) image output i h told image (tellsOf told) output′ n (does .returned) (does .left) refl
           (eo ∙ ap (λ (x : Played). placed output (i * 40) (tellsOf x)) e) l

@@ -20,6 +20,7 @@ use Rattle.laws.specs.declared.DoneAnswer.{DoneAnswer}
 use Rattle.laws.specs.declared.DoneAnswer.the-variants.{Done, Refused}
 use Rattle.store.proofs.Checks.{on-image, image-refused, image-held}
 use Rattle.script.specs.Script.{Operation, operationIn, rowAt, rowsIn, operationsFrom, operations, isScript}
+use Rattle.log_writer.proofs.Turns.{Ends as Led}
 use Rattle.rig.specs.Rig.{unpowered, played, imageAfter, tellsOf, playsImage, tells, onScript, playTold, afterPlay, outputAfter}
 use Rattle.rig.specs.declared.Bench.{Bench}
 use Rattle.rig.specs.declared.Played.{Played}
@@ -110,12 +111,13 @@ module _ (c : ℕ) (script image₀ : List ℕ) where
 
   pub leads-end : (b : Bench) (image output : List ℕ) (i : ℕ) → i ≤ rowsIn script → rowsIn script ≤ i → length output ≡ rowsIn script * 40
       → Leads b image output i
-      → (image ≡ playsImage c (operations script) unpowered image₀) × (output ≡ tells c (operations script) unpowered image₀)
+      → Led image (playsImage c (operations script) unpowered image₀) output (tells c (operations script) unpowered image₀)
   unfolding operationsFrom playsImage tells
-  leads-end b image output i h k n l = (
-    sym (ap (λ (os : List Operation). playsImage c os b image) none) ∙ l .picture,
-    sym (append-nil output) ∙ ap₂ (λ (x : List ℕ) (os : List Operation). x ++ tells c os b image) (sym all) (sym none) ∙ l .told,
-  )
+  leads-end b image output i h k n l =
+      record {
+        returned = sym (ap (λ (os : List Operation). playsImage c os b image) none) ∙ l .picture;
+        left = sym (append-nil output) ∙ ap₂ (λ (x : List ℕ) (os : List Operation). x ++ tells c os b image) (sym all) (sym none) ∙ l .told;
+      }
     where
       none : left i ≡ []
       none = ap (operationsFrom script i) {x = rowsIn script - i} {y = 0} (omega arith)

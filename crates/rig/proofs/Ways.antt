@@ -31,6 +31,7 @@ use Rattle.log_writer.specs.declared.DrainOrder.{DrainOrder}
 use Rattle.log_writer.specs.declared.NextProgram.{NextProgram}
 use Rattle.log_writer.specs.declared.DrainAnswer.{DrainAnswer}
 use Rattle.log_writer.specs.declared.WriteAnswer.{WriteAnswer}
+use Rattle.log_writer.proofs.Turns.{Ends}
 use Rattle.script.specs.Script.{Operation, flagByte, flagAt, nextIn, orderIn, operationIn}
 use Rattle.script.proofs.Rows.{says-offer, says-drain, says-write, says-power, says-recover, says-reset, says-flush}
 use Rattle.rig.specs.Rig.{bench, unpowered, playing, offering, draining, writing, powering, flushing, played, imageAfter}
@@ -95,29 +96,21 @@ flush-made w q row buffered low high answer byte r eb el eh ea ey er =
 
 -- ---- what a row's operation does
 
-pub none-below-six : (y : ℕ) → (y ≡ 0 → ⊥) → (y ≡ 1 → ⊥) → (y ≡ 2 → ⊥) → (y ≡ 3 → ⊥) → (y ≡ 4 → ⊥) → (y ≡ 5 → ⊥) → 5 < y
-none-below-six zero a b c d e f = absurd (a refl)
-none-below-six (suc zero) a b c d e f = absurd (b refl)
-none-below-six (suc (suc zero)) a b c d e f = absurd (c refl)
-none-below-six (suc (suc (suc zero))) a b c d e f = absurd (d refl)
-none-below-six (suc (suc (suc (suc zero)))) a b c d e f = absurd (e refl)
-none-below-six (suc (suc (suc (suc (suc zero))))) a b c d e f = absurd (f refl)
-none-below-six (suc (suc (suc (suc (suc (suc y)))))) a b c d e f = omega arith
-
 module _ (c : ℕ) (row image : List ℕ) (b : Bench) where
   abbrev code : ℕ
   code = getD row 2 0
 
   -- what a call left is what the operation does
   abbrev Does : Played → List ℕ → Type 0
-  Does r image′ = (r ≡ played c (operationIn row) b image) × (image′ ≡ imageAfter c (operationIn row) b image)
+  Does r image′ = Ends r (played c (operationIn row) b image) image′ (imageAfter c (operationIn row) b image)
 
   does : (o : Operation) (r : Played) (image′ : List ℕ) → operationIn row ≡ o → r ≡ played c o b image
       → image′ ≡ imageAfter c o b image → Does r image′
-  does o r image′ eo er em = (
-    er ∙ ap (λ (p : Operation). played c p b image) (sym eo),
-    em ∙ ap (λ (p : Operation). imageAfter c p b image) (sym eo),
-  )
+  does o r image′ eo er em =
+      record {
+        returned = er ∙ ap (λ (p : Operation). played c p b image) (sym eo);
+        left = em ∙ ap (λ (p : Operation). imageAfter c p b image) (sym eo);
+      }
 
   pub drain-does : (order : DrainOrder) (image′ : List ℕ) (r : Played) (answer : DrainAnswer) → order ≡ orderIn row → code ≡ 1
       → answer ≡ drained order c image (part 32 256 row) (b .writer) (b .queue)
@@ -160,7 +153,8 @@ module _ (c : ℕ) (row image : List ℕ) (b : Bench) where
     unfolding played imageAfter
     reset-does e er = does _ r image (says-reset row (sym ey ∙ e)) er refl
 
-    pub flush-does : 5 < y → r ≡ flushing (b .queue) (flushed (b .writer) (flagAt row 6) (u32At row 8 + 2 ^ 32 * u32At row 12))
+    pub flush-does : (code ≡ 0 → ⊥) → (y ≡ 1 → ⊥) → (y ≡ 2 → ⊥) → (y ≡ 3 → ⊥) → (y ≡ 4 → ⊥) → (y ≡ 5 → ⊥)
+        → r ≡ flushing (b .queue) (flushed (b .writer) (flagAt row 6) (u32At row 8 + 2 ^ 32 * u32At row 12))
         → Does r image
     unfolding played imageAfter
-    flush-does h er = does _ r image (says-flush row (omega (arith, ey))) er refl
+    flush-does n0 n1 n2 n3 n4 n5 er = does _ r image (says-flush row (omega (arith, ey))) er refl

@@ -1,5 +1,6 @@
 -- `rig::drain` meets its contract. Assumes nothing.
 use borrow.Author.Needs.{needs}
+use Rattle.log_writer.proofs.Turns.{ends}
 use Rattle.rig.proofs.Ways.{drain-does}
 use Rattle.rig.proofs.drain.Statement.{statement}
 use Rattle.rig.proofs.drain.Tie as tie
@@ -26,12 +27,7 @@ same-length : tie.Need-same-length
 same-length c = search needs
 
 returns : tie.Need-returns
-returns c =
-    let c3 = c .before .before .before in
-    let c6 = c3 .before .before .before in
-    let c11 = c6 .before .before .before .before .before in
-    drain-does _ _ _ _ _ _ _ _ (c6 .order-in .ensures) (c11 .pre .2) (c3 .drain .ensures .0) (c3 .drain .ensures .1)
-    (c .drain-told .ensures)
+returns c = ends (search (drain-does, needs))
 
 pub drain-spec : {M : Type 1} → statement M
 drain-spec =

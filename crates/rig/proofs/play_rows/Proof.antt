@@ -5,6 +5,7 @@ use native.Mathlib.Omega.{arith}
 use borrow.Author.Needs.{needs}
 use lib.ListN.{length}
 use Rattle.script.specs.Script.{rowsIn}
+use Rattle.log_writer.proofs.Turns.{ends}
 use Rattle.rig.specs.Rig.{bench}
 use Rattle.rig.specs.Laws.{SoundBench}
 use Rattle.rig.proofs.Laws.{unpowered-as, played-as}
@@ -15,34 +16,39 @@ use Rattle.rig.proofs.play_rows.Tie as tie
 
 abbrev Inv-loop : tie.InvT-loop
 Inv-loop capacity-bytes image₀ script output₀ rows writer₀ queue₀ i₀ image output writer queue i =
-    (rows ≡ rowsIn script) × (i ≤ rows) × (length image ≡ length image₀) × (length output ≡ length output₀)
-    × SoundBench (bench writer queue) × Leads capacity-bytes script image₀ (bench writer queue) image output i × (rows * 288 < 2 ^ 64)
+    (i ≤ rowsIn script) × (length image ≡ length image₀) × (length output ≡ rowsIn script * 40)
+    × SoundBench (bench writer queue) × Leads capacity-bytes script image₀ (bench writer queue) image output i × (rowsIn script * 288 < 2 ^ 64)
 
 abbrev μ-loop : tie.MeasureT-loop
 μ-loop capacity-bytes image₀ script output₀ rows writer₀ queue₀ i₀ image output writer queue i = rows - i
+
+-- the turn in which a record is offered, and in which a step is taken
+abbrev offer-from : tie.After-unreported Inv-loop μ-loop → tie.In-loop Inv-loop μ-loop
+offer-from c = c .before .before .before .before .before .before .before .before .before
+
+abbrev step-from : tie.After-step Inv-loop μ-loop → tie.In-loop Inv-loop μ-loop
+step-from c = c .before .before .before .before .before
 
 unpowered-bench-requires : tie.Need-unpowered-bench-requires Inv-loop μ-loop
 unpowered-bench-requires c κs = search needs
 
 loop-holds : tie.Need-loop-holds Inv-loop μ-loop
-loop-holds c =
-    let e = c .before .before .unpowered-bench .ensures in
-    (refl, omega arith, refl, refl, unpowered-as _ e, leads-first _ _ _ _ _ e, omega arith)
+loop-holds c = search (unpowered-as, leads-first, needs)
 
 mul-a : tie.Need-mul-a Inv-loop μ-loop
-mul-a c = omega (arith, c .before .loop .inv .0)
+mul-a c = search needs
 
 add-row : tie.Need-add-row Inv-loop μ-loop
-add-row c = omega (arith, c .before .loop .inv .0)
+add-row c = search needs
 
 sub-row : tie.Need-sub-row Inv-loop μ-loop
-sub-row c = omega (arith, c .before .loop .inv .0)
+sub-row c = search needs
 
 part-row-start : tie.Need-part-row-start Inv-loop μ-loop
-part-row-start c = omega (arith, c .before .loop .inv .0)
+part-row-start c = search needs
 
 part-row-end : tie.Need-part-row-end Inv-loop μ-loop
-part-row-end c = omega (arith, c .before .loop .inv .0)
+part-row-end c = search needs
 
 byte-at-requires : tie.Need-byte-at-requires Inv-loop μ-loop
 byte-at-requires c κs = search needs
@@ -73,91 +79,68 @@ unreported-requires c κs = search needs
 
 tell-requires : tie.Need-tell-requires Inv-loop μ-loop
 tell-requires c κs =
-    let kept = c .before .before in
-    let place = kept .before .before in
-    let turn = place .before .before .before .before .before in
-    let l = turn .before .loop .inv in (
-      offer-told _ _ _ _ _ _ (place .place-behind .ensures .0) refl (kept .kept-or-offered .ensures) _ (c .unreported .ensures) (l .4),
-      omega (arith, l .0, l .6, turn .loop-test .taken),
-    )
+    let turn = offer-from c in
+    (search (offer-told, needs, turn), omega (arith, turn))
 
 add-i : tie.Need-add-i Inv-loop μ-loop
-add-i c =
-    let turn = c .before .before .before .before .before .before .before .before .before .before .before .before in
-    let l = turn .before .loop .inv in
-    omega (arith, l .0, l .6, turn .loop-test .taken)
+add-i c = omega (arith, offer-from (c .before .before .before))
 
 loop-less : tie.Need-loop-less Inv-loop μ-loop
-loop-less c = omega arith
+loop-less c = search needs
 
 loop-again : tie.Need-loop-again Inv-loop μ-loop
 loop-again c =
     let tell = c .before .before in
     let kept = tell .before .before .before in
     let place = kept .before .before in
-    let offer = place .before in
-    let test = offer .before .before in
-    let turn = test .before .before in
-    let l = turn .before .loop .inv in
-    let p = turn .before .before .before .before .before .before .before .before .pre in (
-      l .0,
-      omega arith,
-      l .2,
-      tell .tell .kept .0 ∙ l .3,
-      stored-keeps _ _ _ _ _ _ (place .place-behind .ensures .0) refl (kept .kept-or-offered .ensures) (l .4),
+    let offered = place .before in
+    let turn = offer-from (tell .before) in
+    let l = turn .before .loop .inv in (
+      omega (arith, turn),
+      l .1,
+      tell .tell .kept .0 ∙ l .2,
+      search (stored-keeps, needs),
       offer-leads _ _ _ _ _ _ (place .place-behind .ensures .0) refl (kept .kept-or-offered .ensures) _ (tell .before .unreported .ensures)
-          _ _ _ _ _ _ _ _ (test .byte-at .ensures) (offer .before .if1 .taken) (offer .offered-record .ensures)
-          (omega (arith, l .0, turn .loop-test .taken)) (l .3 ∙ p) (tell .tell .ensures) (l .5),
-      l .6,
+          _ _ _ _ _ _ _ _ (offered .before .before .byte-at .ensures) (offered .before .if1 .taken) (offered .offered-record .ensures)
+          (turn .loop-test .taken) (l .2) (tell .tell .ensures) (l .4),
+      l .5,
     )
 
 step-requires : tie.Need-step-requires Inv-loop μ-loop
 step-requires c κs = search needs
 
 tell-requires-2 : tie.Need-tell-requires-2 Inv-loop μ-loop
-tell-requires-2 c κs =
-    let step = c .before .before .before in
-    let turn = step .before .before .before .before .before in
-    let l = turn .before .loop .inv in
-    (played-as _ _ _ _ _ (step .step .ensures .0) (l .4), omega (arith, l .0, l .6, turn .loop-test .taken))
+tell-requires-2 c κs = (search (played-as, needs), search needs)
 
 add-i-2 : tie.Need-add-i-2 Inv-loop μ-loop
-add-i-2 c =
-    let turn = c .before .before .before .before .before .before .before .before .before .before .before .before .before .before in
-    let l = turn .before .loop .inv in
-    omega (arith, l .0, l .6, turn .loop-test .taken)
+add-i-2 c = search needs
 
 loop-less-2 : tie.Need-loop-less-2 Inv-loop μ-loop
-loop-less-2 c = omega arith
+loop-less-2 c = search needs
 
 loop-again-2 : tie.Need-loop-again-2 Inv-loop μ-loop
 loop-again-2 c =
     let told = c .before .before .before .before .before in
-    let step = told .before .before .before .before in
-    let turn = step .before .before .before .before .before in
-    let l = turn .before .loop .inv in
-    let p = turn .before .before .before .before .before .before .before .before .pre in (
-      l .0,
-      omega arith,
-      step .step .kept .1 .1 .0 ∙ l .2,
-      told .tell2 .kept .0 ∙ l .3,
-      played-as _ _ _ _ _ (step .step .ensures .0) (l .4),
-      leads-again _ _ _ _ _ _ _ (omega (arith, l .0, turn .loop-test .taken)) _ _ _ _ (l .3 ∙ p) (step .step .ensures .0)
-          (step .step .ensures .1) refl (told .tell2 .ensures) (l .5),
-      l .6,
+    let stepped = told .before .before .before .before in
+    let turn = step-from stepped in
+    let l = turn .before .loop .inv in (
+      omega (arith, turn),
+      stepped .step .kept .1 .1 .0 ∙ l .1,
+      told .tell2 .kept .0 ∙ l .2,
+      played-as _ _ _ _ _ (stepped .step .ensures .0) (l .3),
+      leads-again _ _ _ _ _ _ _ (turn .loop-test .taken) _ _ _ _ (l .2) (stepped .step .ensures .0) (stepped .step .ensures .1) refl
+          (told .tell2 .ensures) (l .4),
+      l .5,
     )
 
 same-length : tie.Need-same-length Inv-loop μ-loop
-same-length c = c .before .loop .inv .2
+same-length c = search needs
 
 same-length-2 : tie.Need-same-length-2 Inv-loop μ-loop
-same-length-2 c = c .before .loop .inv .3
+same-length-2 c = search needs
 
 returns : tie.Need-returns Inv-loop μ-loop
-returns c =
-    let l = c .before .loop .inv in
-    let p = c .before .before .before .before .before .before .before .before .pre in
-    leads-end _ _ _ _ _ _ _ (omega (arith, l .0)) (omega (arith, l .0)) (l .3 ∙ p) (l .5)
+returns c = ends (search (leads-end, needs))
 
 pub play-rows-spec : {M : Type 1} → statement M
 play-rows-spec =

@@ -1,5 +1,6 @@
 -- `rig::write` meets its contract. Assumes nothing.
 use borrow.Author.Needs.{needs}
+use Rattle.log_writer.proofs.Turns.{ends}
 use Rattle.rig.proofs.Ways.{write-does}
 use Rattle.rig.proofs.write.Statement.{statement}
 use Rattle.rig.proofs.write.Tie as tie
@@ -32,13 +33,7 @@ same-length : tie.Need-same-length
 same-length c = search needs
 
 returns : tie.Need-returns
-returns c =
-    let c3 = c .before .before .before in
-    let c6 = c3 .before .before .before in
-    let c8 = c6 .before .before in
-    let c13 = c8 .before .before .before .before .before in
-    write-does _ _ _ _ _ _ _ _ _ (c8 .u32-at .ensures) (c6 .before .byte-at .ensures) (c6 .next-in .ensures) _ (c13 .pre .2)
-    (c3 .write-pending .ensures .0) (c3 .write-pending .ensures .1) (c .write-told .ensures)
+returns c = let read = c .before .before .before .before .before .before in ends (search (write-does, needs, read))
 
 pub write-spec : {M : Type 1} → statement M
 write-spec =
