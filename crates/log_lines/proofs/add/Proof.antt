@@ -21,7 +21,7 @@ part-put-bytes-start : tie.Need-part-put-bytes-start
 part-put-bytes-start c = search needs
 
 part-put-bytes-end : tie.Need-part-put-bytes-end
-part-put-bytes-end c = omega (arith, c .before .before .before .before .before .before .pre)
+part-put-bytes-end c = search needs
 
 put-bytes-requires : tie.Need-put-bytes-requires
 put-bytes-requires c κs = search needs
@@ -31,8 +31,8 @@ add-t8 c = search needs
 
 returns-3 : tie.Need-returns-3
 returns-3 c =
-    let s = c .before .before .before .before .before .before .before .before .before in
-    lines-fit (s .args .lines) (s .args .line) (omega arith) _ (omega arith) (c .before .put-bytes .ensures)
+    let entry = c .before .before .before .before .before .before .before .before .before in
+    lines-fit (entry .args .lines) (entry .args .line) (omega arith) _ (omega arith) (c .before .put-bytes .ensures)
 
 pub add-spec : {M : Type 1} → statement M
 add-spec =

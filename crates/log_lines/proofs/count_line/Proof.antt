@@ -1,5 +1,4 @@
 -- `log_lines::count_line` meets its contract: its pieces are those of the law. Assumes nothing.
-use native.Mathlib.Omega.{arith}
 use Rattle.log_lines.proofs.Growing.{count-made}
 use borrow.Author.Needs.{needs}
 use Rattle.log_lines.proofs.count_line.Statement.{statement}
@@ -27,14 +26,7 @@ ended-requires : tie.Need-ended-requires
 ended-requires c κs = search needs
 
 returns : tie.Need-returns
-returns c =
-    let s = c .before .before .before .before .before .before .before in
-    let none = c .before .before .before .before .before .no-line in
-    let counted = c .before .before .before .field in
-    let flagged = c .before .field2 in
-    let one = c .before .before .before .before .before .before .one-if in
-    count-made (s .args .count) (s .args .more) (omega arith) (none .result) (counted .result) (flagged .result) (c .ended .result) (one .result) (one .ensures)
-    (none .ensures) (counted .ensures .0) (flagged .ensures .0) (c .ended .ensures)
+returns c = search (count-made, needs)
 
 pub count-line-spec : {M : Type 1} → statement M
 count-line-spec =

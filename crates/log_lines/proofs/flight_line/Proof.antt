@@ -29,16 +29,7 @@ ended-requires : tie.Need-ended-requires
 ended-requires c κs = search needs
 
 returns : tie.Need-returns
-returns c =
-    let f = c .before .before .before .before .before .before .before .before .args .flight in
-    let none = c .before .before .before .before .before .before .before .no-line in
-    let named = c .before .before .before .before .before .field in
-    let started = c .before .before .before .field2 in
-    let paged = c .before .field3 in (
-      flight-made f (named .ensures .1) (started .ensures .1) (paged .ensures .1) (none .result) (named .result) (started .result) (paged .result)
-          (c .ended .result) (none .ensures) (named .ensures .0) (started .ensures .0) (paged .ensures .0) (c .ended .ensures),
-      flight-fits f (named .ensures .1) (started .ensures .1) (paged .ensures .1),
-    )
+returns c = search (flight-made, flight-fits, needs)
 
 pub flight-line-spec : {M : Type 1} → statement M
 flight-line-spec =

@@ -30,17 +30,17 @@ count-line-requires c κs = search needs
 
 add-requires : tie.Need-add-requires Inv-loop μ-loop
 add-requires c κs =
-    let s = c .before .before in
-    line-room (c .count-line .result) (countLine (s .args .count) (s .args .more)) (c .count-line .ensures)
-    (omega (arith, count-short (s .args .count) (s .args .more) (omega arith)))
+    let entry = c .before .before in
+    line-room (c .count-line .result) (countLine (entry .args .count) (entry .args .more)) (c .count-line .ensures)
+    (omega (arith, count-short (entry .args .count) (entry .args .more) (omega arith)))
 
 loop-holds : tie.Need-loop-holds Inv-loop μ-loop
 loop-holds c =
-    let s = c .before .before .before in
+    let entry = c .before .before .before in
     let none = c .before .before .no-lines in
     let first = c .before .count-line in
     let r =
-    listed-first (s .args .count) (s .args .more) (s .args .t1) (omega arith) (none .result) (c .add .result) (first .result)
+    listed-first (entry .args .count) (entry .args .more) (entry .args .t1) (omega arith) (none .result) (c .add .result) (first .result)
     (none .ensures) (first .ensures) (c .add .ensures)
     in
     (omega arith, r .0, r .1)
@@ -65,20 +65,20 @@ loop-less c = search needs
 
 loop-again : tie.Need-loop-again Inv-loop μ-loop
 loop-again c =
-    let s = c .before .before .before .before .before .before .before .before in
+    let entry = c .before .before .before .before .before .before .before .before in
     let l = c .before .before .before .before .loop in
     let f = c .before .flight-line in
     let r =
-    listed-next (s .args .count) (s .args .more) (s .args .t1) (omega arith) (l .lines) (c .add2 .result) (f .result) (l .i)
+    listed-next (entry .args .count) (entry .args .more) (entry .args .t1) (omega arith) (l .lines) (c .add2 .result) (f .result) (l .i)
     (omega arith) (omega arith) (l .inv .2) (l .inv .1) (f .ensures .0) (f .ensures .1) (c .add2 .ensures)
     in
     (omega arith, r .0, r .1)
 
 returns : tie.Need-returns Inv-loop μ-loop
 returns c =
-    let s = c .before .before .before .before .before in
+    let entry = c .before .before .before .before .before in
     let l = c .before .loop in
-    listed-all (s .args .count) (s .args .more) (s .args .t1) (l .i) (l .lines) (omega arith) (omega arith) (l .inv .1)
+    listed-all (entry .args .count) (entry .args .more) (entry .args .t1) (l .i) (l .lines) (omega arith) (omega arith) (l .inv .1)
 
 pub listed-spec : {M : Type 1} → statement M
 listed-spec =

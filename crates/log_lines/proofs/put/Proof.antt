@@ -22,8 +22,8 @@ add-t7 c = search needs
 
 returns-3 : tie.Need-returns-3
 returns-3 c =
-    let s = c .before .before .before .before .before .before .before in
-    grown-fits (s .args .line) (s .args .b .now) _ (omega arith) (c .before .put-bytes .ensures)
+    let entry = c .before .before .before .before .before .before .before in
+    grown-fits (entry .args .line) (entry .args .b .now) _ (omega arith) (c .before .put-bytes .ensures)
 
 pub put-spec : {M : Type 1} → statement M
 put-spec =
