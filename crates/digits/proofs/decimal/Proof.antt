@@ -28,9 +28,8 @@ sub-t11 c = search needs
 
 returns : tie.Need-returns
 returns c =
-    let back = c .before .before .before .before .before .before .digits-back in
-    moved (c .before .before .before .before .before .before .before .args .n) (back .result .text) _ (back .result .at) (back .ensures .1)
-    (back .ensures .0) (back .ensures .2) (c .before .put-bytes .ensures)
+    let back = c .before .before .before .before .before .before .digits-back .ensures in
+    moved _ _ _ _ (back .1) (back .0) (back .2) (c .before .put-bytes .ensures)
 
 pub decimal-spec : {M : Type 1} → statement M
 decimal-spec =

@@ -29,8 +29,7 @@ loop-holds c = (omega arith, omega arith, refl, laid-first (c .before .args .n) 
 sub-at : tie.Need-sub-at Inv-loop μ-loop
 sub-at c =
     let l = c .before .loop in
-    let n = c .before .before .before .args .n in
-    place-left n (omega arith) (l .text) (l .at) (l .rest) (l .inv .2) (l .inv .0) (l .inv .3) (omega arith)
+    place-left _ (omega arith) (l .text) (l .at) (l .rest) (l .inv .2) (l .inv .0) (l .inv .3) (omega arith)
 
 last-digit-requires-2 : tie.Need-last-digit-requires-2 Inv-loop μ-loop
 last-digit-requires-2 c κs = search needs
@@ -38,8 +37,7 @@ last-digit-requires-2 c κs = search needs
 array-write-text-2 : tie.Need-array-write-text-2 Inv-loop μ-loop
 array-write-text-2 c =
     let l = c .before .before .loop in
-    let n = c .before .before .before .before .args .n in
-    omega (arith, place-left n (omega arith) (l .text) (l .at) (l .rest) (l .inv .2) (l .inv .0) (l .inv .3) (omega arith))
+    omega (arith, place-left _ (omega arith) (l .text) (l .at) (l .rest) (l .inv .2) (l .inv .0) (l .inv .3) (omega arith))
 
 loop-less : tie.Need-loop-less Inv-loop μ-loop
 loop-less c = search needs
@@ -47,19 +45,17 @@ loop-less c = search needs
 loop-again : tie.Need-loop-again Inv-loop μ-loop
 loop-again c =
     let l = c .before .before .loop in
-    let n = c .before .before .before .before .args .n in
     let d = c .last-digit2 in (
       omega arith,
       omega arith,
       simp length-set (omega arith),
-      laid-next n (omega arith) (l .text) (l .at) (l .rest) (l .inv .2) (l .inv .0) (l .inv .3) (omega arith) (d .result) (d .ensures),
+      laid-next _ (omega arith) (l .text) (l .at) (l .rest) (l .inv .2) (l .inv .0) (l .inv .3) (omega arith) (d .result) (d .ensures),
     )
 
 returns : tie.Need-returns Inv-loop μ-loop
 returns c =
     let l = c .before .loop in
-    let n = c .before .before .before .args .n in
-    (l .inv .0, l .inv .2, laid-all n (l .text) (l .at) (l .rest) (omega arith) (l .inv .3))
+    (l .inv .0, l .inv .2, laid-all _ (l .text) (l .at) (l .rest) (omega arith) (l .inv .3))
 
 pub digits-back-spec : {M : Type 1} → statement M
 digits-back-spec =

@@ -6,10 +6,10 @@ use Rattle.log_lines.proofs.add.Statement.{statement}
 use Rattle.log_lines.proofs.add.Tie as tie
 
 returns : tie.Need-returns
-returns c = lines-short (c .before .args .lines) (c .before .args .line) (omega arith) (omega arith)
+returns c = lines-short _ (c .before .args .line) (omega arith) (omega arith)
 
 returns-2 : tie.Need-returns-2
-returns-2 c = lines-short (c .before .before .args .lines) (c .before .before .args .line) (omega arith) (omega arith)
+returns-2 c = lines-short _ (c .before .before .args .line) (omega arith) (omega arith)
 
 slice-aggregate-put-bytes : tie.Need-slice-aggregate-put-bytes
 slice-aggregate-put-bytes c = search needs
@@ -30,9 +30,7 @@ add-t8 : tie.Need-add-t8
 add-t8 c = search needs
 
 returns-3 : tie.Need-returns-3
-returns-3 c =
-    let entry = c .before .before .before .before .before .before .before .before .before in
-    lines-fit (entry .args .lines) (entry .args .line) (omega arith) _ (omega arith) (c .before .put-bytes .ensures)
+returns-3 c = lines-fit _ _ (omega arith) _ (omega arith) (c .before .put-bytes .ensures)
 
 pub add-spec : {M : Type 1} → statement M
 add-spec =

@@ -65,20 +65,18 @@ loop-less c = search needs
 
 loop-again : tie.Need-loop-again Inv-loop μ-loop
 loop-again c =
-    let entry = c .before .before .before .before .before .before .before .before in
     let l = c .before .before .before .before .loop in
     let f = c .before .flight-line in
     let r =
-    listed-next (entry .args .count) (entry .args .more) (entry .args .t1) (omega arith) (l .lines) (c .add2 .result) (f .result) (l .i)
-    (omega arith) (omega arith) (l .inv .2) (l .inv .1) (f .ensures .0) (f .ensures .1) (c .add2 .ensures)
+    listed-next _ _ _ (omega arith) _ _ _ (l .i) (omega arith) (omega arith) (l .inv .2) (l .inv .1) (f .ensures .0) (f .ensures .1)
+    (c .add2 .ensures)
     in
     (omega arith, r .0, r .1)
 
 returns : tie.Need-returns Inv-loop μ-loop
 returns c =
-    let entry = c .before .before .before .before .before in
     let l = c .before .loop in
-    listed-all (entry .args .count) (entry .args .more) (entry .args .t1) (l .i) (l .lines) (omega arith) (omega arith) (l .inv .1)
+    listed-all _ _ _ (l .i) _ (omega arith) (omega arith) (l .inv .1)
 
 pub listed-spec : {M : Type 1} → statement M
 listed-spec =

@@ -6,10 +6,10 @@ use Rattle.log_lines.proofs.put.Statement.{statement}
 use Rattle.log_lines.proofs.put.Tie as tie
 
 returns : tie.Need-returns
-returns c = grown-short (c .before .before .args .line) (c .before .before .args .b .now) (omega arith)
+returns c = grown-short _ _ (omega arith)
 
 returns-2 : tie.Need-returns-2
-returns-2 c = grown-short (c .before .before .before .args .line) (c .before .before .before .args .b .now) (omega arith)
+returns-2 c = grown-short _ _ (omega arith)
 
 slice-aggregate-put-bytes : tie.Need-slice-aggregate-put-bytes
 slice-aggregate-put-bytes c = search needs
@@ -21,9 +21,7 @@ add-t7 : tie.Need-add-t7
 add-t7 c = search needs
 
 returns-3 : tie.Need-returns-3
-returns-3 c =
-    let entry = c .before .before .before .before .before .before .before in
-    grown-fits (entry .args .line) (entry .args .b .now) _ (omega arith) (c .before .put-bytes .ensures)
+returns-3 c = grown-fits _ _ _ (omega arith) (c .before .put-bytes .ensures)
 
 pub put-spec : {M : Type 1} → statement M
 put-spec =

@@ -50,16 +50,17 @@ loop-less c = search needs
 
 loop-again : tie.Need-loop-again Inv-loop μ-loop
 loop-again c =
-    let l = c .before .before .before .before .before .before .before .loop in (
+    let row = c .before .before .before .before in
+    let l = row .before .before .before .loop in (
       omega arith,
       c .before .put-bytes .kept .0 ∙ l .inv .1,
-      entry-more (c .before .before .before .before .before .before .before .before .args .t1) (l .i) (omega arith) (omega arith) (l .rows) (c .before .before .before .before .stored-row .result) _ (l .inv .2) (c .before .before .before .before .stored-row .ensures) (c .before .put-bytes .ensures),
+      entry-more _ (l .i) (omega arith) (omega arith) _ _ _ (l .inv .2) (row .stored-row .ensures) (c .before .put-bytes .ensures),
     )
 
 returns : tie.Need-returns Inv-loop μ-loop
 returns c =
     let l = c .before .loop in
-    entries-all (c .before .before .args .t1) (l .i) (l .rows) (omega arith) (omega arith) (l .inv .2)
+    entries-all _ (l .i) _ (omega arith) (omega arith) (l .inv .2)
 
 pub list-rows-spec : {M : Type 1} → statement M
 list-rows-spec =

@@ -17,9 +17,7 @@ abbrev μ-loop : tie.MeasureT-loop
 μ-loop image₀ at target keep succeeds i₀ image i = length target - i
 
 loop-holds : tie.Need-loop-holds Inv-loop μ-loop
-loop-holds c =
-    let s = c .before .before .before in
-    (omega arith, refl, none-yet (s .args .image .now) (s .args .at) (s .args .target .now) (mask (s .args .succeeds) (s .args .keep .now)) (s .pre))
+loop-holds c = (omega arith, refl, search (none-yet, needs))
 
 add-place : tie.Need-add-place Inv-loop μ-loop
 add-place c = omega arith
@@ -44,13 +42,10 @@ loop-less c = omega arith
 
 loop-again : tie.Need-loop-again Inv-loop μ-loop
 loop-again c =
-    let s = c .before .before .before .before .before .before .before .before in
-    let l = c .before .before .before .before .loop in
-    let k = mask (s .args .succeeds) (s .args .keep .now) in (
+    let l = c .before .before .before .before .loop in (
       omega arith,
       simp length-set (l .inv .1),
-      one-more (s .args .image .now) (s .args .at) (s .args .target .now) k (s .pre) (l .i) (omega arith) (l .image)
-          (c .before .before .kept .result) (l .inv .2) (c .before .before .kept .ensures),
+      one-more _ _ _ _ (omega arith) (l .i) (omega arith) _ _ (l .inv .2) (c .before .before .kept .ensures),
     )
 
 same-length : tie.Need-same-length Inv-loop μ-loop
@@ -58,12 +53,12 @@ same-length c = c .before .loop .inv .1
 
 returns : tie.Need-returns Inv-loop μ-loop
 returns c =
-    let s = c .before .before .before .before .before in
+    let entry = c .before .before .before .before .before in
     let l = c .before .loop in
-    let k = mask (s .args .succeeds) (s .args .keep .now) in
+    let k = mask (entry .args .succeeds) (entry .args .keep .now) in
     l .inv .2
-    ∙ ap (soFar (s .args .image .now) (s .args .at) (s .args .target .now) k) {x = l .i} {y = length (s .args .target .now)} (omega arith)
-    ∙ programmed-all (s .args .image .now) (s .args .at) (s .args .target .now) k
+    ∙ ap (soFar (entry .args .image .now) (entry .args .at) (entry .args .target .now) k) {x = l .i} {y = length (entry .args .target .now)} (omega arith)
+    ∙ programmed-all (entry .args .image .now) (entry .args .at) (entry .args .target .now) k
 
 pub program-bytes-spec : {M : Type 1} → statement M
 program-bytes-spec =
