@@ -102,7 +102,7 @@ loop-again c =
       search (stored-keeps, needs),
       offer-leads _ _ _ _ _ _ (place .place-behind .ensures .0) refl (kept .kept-or-offered .ensures) _ (tell .before .unreported .ensures)
           _ _ _ _ _ _ _ _ (offered .before .before .byte-at .ensures) (offered .before .if1 .taken) (offered .offered-record .ensures)
-          (turn .loop-test .taken) (l .2) (tell .tell .ensures) (l .4),
+          (omega (arith, turn)) (l .2) (tell .tell .ensures) (l .4),
       l .5,
     )
 
@@ -128,7 +128,7 @@ loop-again-2 c =
       stepped .step .kept .1 .1 .0 ∙ l .1,
       told .tell2 .kept .0 ∙ l .2,
       played-as _ _ _ _ _ (stepped .step .ensures .0) (l .3),
-      leads-again _ _ _ _ _ _ _ (turn .loop-test .taken) _ _ _ _ (l .2) (stepped .step .ensures .0) (stepped .step .ensures .1) refl
+      leads-again _ _ _ _ _ _ _ (omega (arith, turn)) _ _ _ _ (l .2) (stepped .step .ensures .0) (stepped .step .ensures .1) refl
           (told .tell2 .ensures) (l .4),
       l .5,
     )
@@ -140,7 +140,9 @@ same-length-2 : tie.Need-same-length-2 Inv-loop μ-loop
 same-length-2 c = search needs
 
 returns : tie.Need-returns Inv-loop μ-loop
-returns c = ends (search (leads-end, needs))
+returns c =
+    let l = c .before .loop .inv in
+    ends (leads-end _ _ _ _ _ _ _ (omega arith) (omega arith) (l .2) (l .4))
 
 pub play-rows-spec : {M : Type 1} → statement M
 play-rows-spec =
