@@ -1,2 +1,2 @@
-pub mod Again
 pub mod Entries
+pub mod Locals

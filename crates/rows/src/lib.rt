@@ -1,29 +1,17 @@
 // The unsynced list in a lent row of eight flight entries: what log_sync answers by value is written to the caller's own row, and the
 // entries beyond the count stay. A row that isn't eight long and a count above eight are refused 17, and then the row stays whole.
-// A caller that holds its row by value calls `filled_row`, and needs no proof by hand. `filled_row`, `fill_row` and `put_row` are proved by
-// a walk of their code, since a slice of structs is lent; walk.py writes that of `put_row`.
+// A caller that holds its row by value calls `filled_row`, and needs no proof by hand. `filled_row` and `fill_row` are proved by a walk of
+// their code, since a slice of structs is lent.
 use log_search::StoredFlight;
 use log_sync::Unsynced;
 ghost use mathlib.Core.Path.{_≡_};
-ghost use Prim.Native.Nat.{_<_, _≤_};
 ghost use lib.ListN.{length};
-ghost use Rattle.rows.specs.Row.{entryAt, rowNumber, filled, afterFill, filledRow};
+ghost use Rattle.rows.specs.Row.{rowNumber, afterFill, filledRow};
 
 // A row held by value, and the number of the refusal that it got, 0 for none.
 pub struct FilledRow {
     pub refused: u8,
     pub row: [StoredFlight; 8],
-}
-
-// Entry i of a row that a list goes into: the list's own below the count, the old one from there on.
-fn entry(list: Unsynced, i: usize, old: StoredFlight) -> StoredFlight
-    requires { ⌜ i < 8 ⌝ }
-    ensures { λ r. ⌜ r ≡ entryAt list i old ⌝ }
-{
-    if i < list.count {
-        return list.flights[i];
-    }
-    old
 }
 
 // The number of the refusal that a row and a list of these lengths get, 0 for none.
@@ -39,38 +27,6 @@ fn row_number(row_len: usize, count: usize) -> u8
     0
 }
 
-// Each of the eight entries in its turn.
-fn put_row(row: &mut [StoredFlight], list: Unsynced)
-    requires { ⌜ (length (now row) ≡ 8) × (list .count ≤ 8) ⌝ }
-    ensures { λ _. ⌜ now (row .exit) ≡ filled list (now (row .entry)) ⌝ }
-{
-    let mut flight: StoredFlight;
-    flight = row[0];
-    flight = entry(list, 0, flight);
-    row[0] = flight;
-    flight = row[1];
-    flight = entry(list, 1, flight);
-    row[1] = flight;
-    flight = row[2];
-    flight = entry(list, 2, flight);
-    row[2] = flight;
-    flight = row[3];
-    flight = entry(list, 3, flight);
-    row[3] = flight;
-    flight = row[4];
-    flight = entry(list, 4, flight);
-    row[4] = flight;
-    flight = row[5];
-    flight = entry(list, 5, flight);
-    row[5] = flight;
-    flight = row[6];
-    flight = entry(list, 6, flight);
-    row[6] = flight;
-    flight = row[7];
-    flight = entry(list, 7, flight);
-    row[7] = flight;
-}
-
 // Writes a list into a lent row of eight entries; answers the number of its refusal, 0 for none.
 pub fn fill_row(row: &mut [StoredFlight], list: Unsynced) -> u8
     ensures { λ r. ⌜ (r ≡ rowNumber (length (now (row .entry))) (list .count)) × (now (row .exit) ≡ afterFill list (now (row .entry))) ⌝ }
@@ -79,7 +35,12 @@ pub fn fill_row(row: &mut [StoredFlight], list: Unsynced) -> u8
     if refused != 0 {
         return refused;
     }
-    put_row(row, list);
+    let flights = list.flights;
+    let mut i = 0;
+    while i < list.count {
+        row[i] = flights[i];
+        i = i + 1;
+    }
     0
 }
 
