@@ -1,8 +1,7 @@
 -- `crc32::crc32` meets its contract: every entry of the table is as it has to be, which antt computes. Assumes nothing.
 use mathlib.Core.Path.{refl}
-use Rattle.crc32.specs.Crc.{bitStep, bitSteps}
 use Rattle.crc32.proofs.Remainders.{checksum-end}
-use Rattle.crc32.proofs.Table.{entries, tabled}
+use Rattle.crc32.proofs.Table.{steps, entries, tabled}
 use borrow.Author.Needs.{needs}
 use Rattle.crc32.proofs.crc32.Statement.{statement}
 use Rattle.crc32.proofs.crc32.Tie as tie
@@ -11,7 +10,7 @@ slice-aggregate-by-words : tie.Need-slice-aggregate-by-words
 slice-aggregate-by-words c = search needs
 
 by-words-requires : tie.Need-by-words-requires
-unfolding entries bitSteps bitStep
+unfolding entries steps
 by-words-requires c κs = tabled _ refl tt
 
 mul-whole : tie.Need-mul-whole
