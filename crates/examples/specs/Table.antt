@@ -1,10 +1,9 @@
 -- Document 01, "Proved examples and run examples": "Proved together, as one table under a single claim". Each row quotes the
 -- document and says the same of the definitions that the contracts cite.
 use mathlib.Core.Path.{_≡_}
-use mathlib.Core.List.{List, [], _∷_}
+use mathlib.Core.List.{[], _∷_}
 use mathlib.Core.Option.{none, some}
-use Prim.Native.Nat.{ℕ}
-use lib.IntN.{ℤ, pos, negsuc}
+use lib.IntN.{pos, negsuc}
 use lib.ListN.{getD}
 use Rattle.laws.specs.Refusals.{invalidLayout, outOfRange}
 use Rattle.laws.specs.Answers.{gives, refuses}

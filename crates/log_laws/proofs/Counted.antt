@@ -14,10 +14,10 @@ use Rattle.layout.specs.Layout.{validCapacity, pagesIn}
 use Rattle.store.specs.Store.{onImage, onLengths}
 use Rattle.blackbox.specs.Record.{noRecord}
 use Rattle.blackbox.specs.declared.FlightRecord.{FlightRecord}
-use Rattle.assembler.specs.Assembler.{noPage, started, stopped, withoutReady, readyPage, taken}
+use Rattle.assembler.specs.Assembler.{noPage, stopped, withoutReady, readyPage, taken}
 use Rattle.assembler.proofs.Laws.{never}
 use Rattle.queue.specs.Queue.{dequeue, oldest, withoutOldest, dequeued}
-use Rattle.log_state.specs.Writer.{logWriter, withAssembler, fetching, fetched, written, beginning, begun, logged, stoppedInto, added, ended, logging}
+use Rattle.log_state.specs.Writer.{withAssembler, fetching, fetched, written, beginning, begun, logged, stoppedInto, added, ended, logging}
 use Rattle.log_state.specs.declared.LogWriter.{LogWriter}
 use Rattle.log_writer.specs.Pass.{withWriter, halted, failing, put, severed, busyNow, logs, counted, takingIn, takingRecord, programming, fetchedPass, turn}
 use Rattle.log_writer.specs.Pass.{turns, droppingIt, dropping, onEmptyQueue, begin, drainPass}
@@ -72,11 +72,6 @@ record Told (p q : Pass) : Type 0 where
   pub programs : q .«pages_written» + q .succeed ≡ p .«pages_written» + p .succeed
   pub rise : ((q .cut ≡ true) × (q .going ≡ false) × (q .succeed ≡ 0))
       ⊎ ((q .cut ≡ p .cut) × (q .writer .«next_page» + p .«pages_written» ≡ p .writer .«next_page» + q .«pages_written»))
-
--- a step that writes no page and programs nothing
-told-idle : (p q : Pass) → q .«pages_written» ≡ p .«pages_written» → q .succeed ≡ p .succeed → q .cut ≡ p .cut
-    → q .writer .«next_page» ≡ p .writer .«next_page» → Told p q
-told-idle p q a b c d = record { programs = omega (arith, a, b); rise = inr (c, omega (arith, a, d)) }
 
 record Idle (p q : Pass) : Type 0 where
   pub pages : q .«pages_written» ≡ p .«pages_written»

@@ -6,11 +6,10 @@ use mathlib.Core.Bool.{Bool, true, false}
 use mathlib.Core.List.{List, [], _∷_, _++_}
 use native.Mathlib.Omega.{arith}
 use borrow.Author.Tests.{le-leb, lt-leb}
-use lib.ListN.{length, take, length-append}
-use lib.Seq.{take-at}
+use lib.ListN.{length, length-append}
 use Rattle.words.specs.Words.{ascii, placed}
 use Rattle.blackbox.specs.Page.{padded}
-use Rattle.blackbox.proofs.Laying.{length-padded, padded-more}
+use Rattle.blackbox.proofs.Laying.{padded-more}
 use Rattle.log_search.specs.declared.StoredFlight.{StoredFlight}
 use Rattle.digits.specs.Decimal.{digit, decimalOf}
 use Rattle.digits.proofs.Notation.{decimal-small, decimal-short, decimal-ten}

@@ -3,7 +3,7 @@
 -- USB_RESPONSE_CAPACITY, not given, is taken as 56 or more."
 use Prim.Native.Nat.{ℕ, _+_}
 use mathlib.Core.Bool.{Bool, true, false, cond}
-use mathlib.Core.List.{List, [], _∷_, _++_, map}
+use mathlib.Core.List.{List, [], _++_, map}
 use lib.Dec.{eqb, leb}
 use lib.ListN.{length, take, replicate}
 use Rattle.laws.specs.Refusals.{noSuchFlight, recording, lengthChanged, ledgerFull, badLength}

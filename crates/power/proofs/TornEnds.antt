@@ -66,12 +66,6 @@ module _ {Page Record Mask : Type 0} (S : PageStore Page Record Mask) (L : Lawfu
   abbrev withPast : List (List (ℕ × Record)) → Device S → Device S
   withPast past d = record { log = d .log; writer = d .writer; queue = d .queue; past = past; now = d .now }
 
-  past-call : (past : List (List (ℕ × Record))) (c : Call S) (d : Device S) → NoPowerOn S (c ∷ []) → call S c (withPast past d) ≡ withPast past (call S c d)
-  past-call past (offers r) d o = refl
-  past-call past (drains order) d o = refl
-  past-call past (writes g z) d o = refl
-  past-call past powers d o = absurd o
-
   past-lives : (past : List (List (ℕ × Record))) (calls : List (Call S)) (d : Device S) → NoPowerOn S calls
       → lives S calls (withPast past d) ≡ withPast past (lives S calls d)
   past-lives past [] d o = refl

@@ -11,8 +11,7 @@ use lib.ListN.{length, getD, replicate, length-replicate}
 use Rattle.laws.specs.Answers.{Answer, gives}
 use Rattle.power.specs.Writer as Model
 use Rattle.power.specs.Calls as Theory
-use Rattle.power.specs.Scan as Theory-scan
-use Rattle.power.specs.Life.{Call, Device}
+use Rattle.power.specs.Life.{Device}
 use Rattle.power.specs.Life as Life
 use Rattle.layout.specs.Layout.{logStart, validCapacity, pagesIn}
 use Rattle.store.specs.Store.{noFaults, leaves}
@@ -39,7 +38,7 @@ use Rattle.power_pages.specs.Store.{real, pagesOf}
 use Rattle.power_pages.proofs.Real.{real-lawful}
 use Rattle.power_pages.proofs.Scan.{scan-is-theory}
 use Rattle.records.proofs.Readings.{NoFaults}
-use Rattle.power_views.specs.Views.{asWriter, asNext, asPass}
+use Rattle.power_views.specs.Views.{asWriter, asPass}
 use Rattle.power_views.proofs.Drain.{drain-is}
 use Rattle.power_views.proofs.Write.{write-is}
 use Rattle.script.specs.Script.{Operation, offers, drains, writes, powers, recovers, resets, flushes}
@@ -48,7 +47,7 @@ use Rattle.rig.specs.Rig.{bench, draining, writing, powering, played, imageAfte
 use Rattle.rig.specs.Laws.{SoundBench}
 use Rattle.rig.specs.declared.Bench.{Bench}
 use Rattle.rig.proofs.Laws.{operation-keeps}
-use Rattle.power_lives.specs.Lives.{OfLife, EachOfLife, takes, drainOf, callsOf, lifeFrom}
+use Rattle.power_lives.specs.Lives.{OfLife, EachOfLife, takes, callsOf, lifeFrom}
 
 -- the device that a bench and an image are to the theory, with a history
 abbrev pub deviceOf : ℕ → Bench → List ℕ → List (List (ℕ × FlightRecord)) → List (ℕ × FlightRecord) → Device real

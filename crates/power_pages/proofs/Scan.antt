@@ -2,12 +2,12 @@
 -- same flight. Assumes nothing.
 use Prim.Native.Nat.{ℕ, zero, suc, _+_, _-_, _/_, _≤_, _<_}
 use mathlib.Core.Path.{_≡_, refl, sym, ap, ap₂, _∙_}
-use mathlib.Core.Bool.{Bool, true, false, cond, false≢true}
-use mathlib.Core.List.{List, [], _∷_}
+use mathlib.Core.Bool.{Bool, true, false, false≢true}
+use mathlib.Core.List.{List}
 use mathlib.Core.Option.{Option, none, some}
 use native.Mathlib.Nat.{add-zero, add-suc, suc-add}
 use native.Mathlib.Omega.{arith}
-use borrow.Author.Tests.{eq-eqb, ne-eqb, eqb-true}
+use borrow.Author.Tests.{ne-eqb}
 use lib.Dec.{eqb, ltb}
 use lib.ListN.{length, getD, drop, replicate, length-drop}
 use lib.Seq.{length-take-le}
@@ -19,7 +19,6 @@ use Rattle.power.specs.Scan as Theory-scan
 use Rattle.words.specs.Words.{sameBytes}
 use Rattle.layout.specs.Layout.{validCapacity, pagesIn, pageAt}
 use Rattle.layout.proofs.Capacity.{valid}
-use Rattle.store.specs.Store.{readOf, faultAt}
 use Rattle.store.proofs.Checks.{on-lengths}
 use Rattle.blackbox.specs.Flight.{nextFlight}
 use Rattle.blackbox.specs.Page.{blankPage, decoded}

@@ -14,7 +14,6 @@ use lib.ListN.{length}
 use Rattle.laws.specs.Answers.{Answer, gives}
 use Rattle.laws.specs.Halving.{Threshold}
 use Rattle.laws.proofs.Halving.{halving-plain, bisecting-within, bisecting-at}
-use Rattle.power.specs.Reading as Theory
 use Rattle.power.specs.Scan as Theory-scan
 use Rattle.layout.specs.Layout.{validCapacity, pagesIn}
 use Rattle.store.proofs.Checks.{on-lengths}

@@ -18,7 +18,6 @@ use Rattle.queue.specs.Queue.{oldest, withoutOldest}
 use Rattle.queue.specs.declared.RecordQueue.{RecordQueue}
 use Rattle.queue.proofs.Laws.{held-first}
 use Rattle.assembler.specs.Assembler.{pageAssembler, started, answered, finished, marked, laid, pushed, unrecorded, stopped, withoutReady, taken}
-use Rattle.assembler.specs.Assembler as Assembler
 use Rattle.assembler.specs.Laws.{usedRows, pageOfRows}
 use Rattle.assembler.specs.WellFormed.{SoundAssembler}
 use Rattle.assembler.specs.declared.PageAssembler.{PageAssembler}

@@ -1,16 +1,16 @@
 -- The laws of a call that answers in a number and a row. Assumes nothing.
-use Prim.Native.Nat.{ℕ, _+_, _*_, _/_, _%_, _<_}
-use mathlib.Core.Path.{_≡_, refl, sym, ap, _∙_}
+use Prim.Native.Nat.{ℕ, _+_, _*_}
+use mathlib.Core.Path.{_≡_, refl, ap}
 use mathlib.Core.Bool.{Bool, true, false, cond}
 use mathlib.Core.List.{List}
 use native.Mathlib.Omega.{arith}
 use borrow.Author.Tests.{eq-eqb, ne-eqb}
 use lib.Dec.{eqb}
-use Rattle.laws.specs.Refusals.{invalidLayout, badLength}
-use Rattle.laws.specs.Answers.{Answer, refuses, must}
+use Rattle.laws.specs.Refusals.{invalidLayout}
+use Rattle.laws.specs.Answers.{Answer, refuses}
 use Rattle.store.specs.Store.{leaves}
 use Rattle.reply.specs.Reply.{replyOf, rowed}
-use Rattle.reply.specs.Laws.{ReplyTells, RefusedLeaves, Ordered, RowOrder}
+use Rattle.reply.specs.Laws.{ReplyTells, RefusedLeaves, RowOrder}
 
 pub reply-tells : ReplyTells
 reply-tells answer number fault low e =

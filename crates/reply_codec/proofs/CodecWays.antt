@@ -1,8 +1,8 @@
 -- What each answer of layout and codec tells, case by case, and how long its row is. Assumes nothing.
 use Prim.Native.Nat.{ℕ, _+_, _-_, _*_, _≤_}
-use mathlib.Core.Path.{_≡_, refl, sym, ap, _∙_}
+use mathlib.Core.Path.{_≡_, refl, ap, _∙_}
 use mathlib.Core.Bool.{Bool, true, false}
-use mathlib.Core.Option.{Option, none, some}
+use mathlib.Core.Option.{none, some}
 use mathlib.Core.List.{List, [], _∷_}
 use native.Mathlib.Omega.{arith}
 use borrow.Author.Tests.{eq-eqb, ne-eqb}
@@ -30,7 +30,6 @@ use Rattle.blackbox.specs.declared.RecordAnswer.{RecordAnswer}
 use Rattle.blackbox.specs.declared.EncodedPage.{EncodedPage}
 use Rattle.blackbox.specs.declared.PageAnswer.{PageAnswer}
 use Rattle.blackbox.specs.declared.PageAnswer.the-variants as Pages
-use Rattle.reply.specs.Reply.{heldAs}
 use Rattle.reply_codec.specs.CodecRows.{layoutRow, metadataRow, toldLayout, toldRecord, toldPage, encodedRows}
 
 pub number-refused : (a : NumberAnswer) (x : Refusal) → a ≡ Number.Refused x → toldNumber a ≡ refuses (x .number) (x .fault)

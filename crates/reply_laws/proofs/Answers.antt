@@ -1,12 +1,12 @@
 -- Every answer that an export gives refuses by a number of the table, with a fault byte for 6 alone: each definition is a chain of tests and
 -- calls, taken link by link. Assumes nothing.
-use Prim.Native.Nat.{ℕ, zero, suc, _+_, _-_, _*_, _/_, _%_, _<_, _≤_}
-use mathlib.Core.Path.{_≡_, refl, sym, ap, _∙_}
+use Prim.Native.Nat.{ℕ, zero, suc, _+_, _-_, _/_, _<_, _≤_}
+use mathlib.Core.Path.{_≡_, refl, sym, ap}
 use mathlib.Core.Bool.{Bool, true, false, cond, not}
-use mathlib.Core.List.{List, [], _∷_}
+use mathlib.Core.List.{List}
 use mathlib.Core.Option.{Option, none, some}
 use native.Mathlib.Omega.{arith}
-use borrow.Author.Tests.{eq-eqb, ne-eqb}
+use borrow.Author.Tests.{eq-eqb}
 use lib.Dec.{eqb, leb, ltb}
 use lib.ListN.{length, getD, take, drop}
 use Rattle.laws.specs.Refusals as Number
@@ -18,13 +18,12 @@ use Rattle.store.specs.Store.{onImage, onLengths, readOf, faultAt, done, replie
 use Rattle.words.specs.Words.{sameBytes, u32At}
 use Rattle.crc32.specs.Crc.{crc32Of}
 use Rattle.blackbox.specs.Record.{recordOf, recordDecoded}
-use Rattle.blackbox.specs.Page.{magic, metadata, decoded, decodedAs, encoded, encodedPage, recordFromPage, recordsIn}
-use Rattle.blackbox.specs.declared.PageMetadata.{PageMetadata}
-use Rattle.records.specs.Pages.{readingAt, readPage, blankAt, flightIn, ownAt, orElse, pageFlight, flightOfPage}
-use Rattle.records.specs.Scan.{usedPages, appending, ifBegun, verdict, scanPages, scanned}
+use Rattle.blackbox.specs.Page.{magic, metadata, decoded, decodedAs, encoded, recordFromPage}
+use Rattle.records.specs.Pages.{readingAt, readPage, blankAt, ownAt, orElse, pageFlight, flightOfPage}
+use Rattle.records.specs.Scan.{usedPages, ifBegun, verdict, scanPages, scanned}
 use Rattle.records.specs.declared.PageFlight.{PageFlight}
 use Rattle.records.specs.declared.Scan.{Scan}
-use Rattle.sync_ledger.specs.Ledger.{headerAt, readHeader, inRange, located, bitLocation, byteRead, isSynced, stepUnder, stepAt, nextMarkStep, stepStores, asked, stepTold}
+use Rattle.sync_ledger.specs.Ledger.{headerAt, readHeader, inRange, located, bitLocation, isSynced, stepUnder, stepAt, nextMarkStep, stepStores, stepTold}
 use Rattle.sync_ledger.proofs.Agree.{synced-where-done}
 use Rattle.sync_ledger.specs.declared.LedgerHeader.{LedgerHeader}
 use Rattle.sync_ledger.specs.declared.LedgerHeader.the-variants.{Blank, Valid, Foreign}
@@ -38,10 +37,9 @@ use Rattle.log_sync.specs.declared.Recording.{Recording}
 use Rattle.log_sync.specs.declared.Recording.the-variants as Recorded
 use Rattle.log_sync.specs.declared.Unsynced.{Unsynced}
 use Rattle.log_lines.specs.Lines.{unsynced}
-use Rattle.reply.specs.Reply.{replyOf, laid, rowed, heldAs}
 use Rattle.reply_codec.specs.CodecRows.{encodedRows}
 use Rattle.reply_text.specs.TextRows.{toldList, linesOf}
-use Rattle.reply_laws.specs.Laws.{Listed, Holds, Anything, Proper, RowProper, ZeroGives}
+use Rattle.reply_laws.specs.Laws.{Listed, Holds, Anything, Proper}
 
 -- what a visit keeps
 abbrev Kept : {S : Type 0} → (S → Type 0) → Visit S → Type 0

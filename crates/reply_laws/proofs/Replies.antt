@@ -1,6 +1,6 @@
 -- What a caller may conclude from a reply, shown of every export's answer. Assumes nothing.
-use Prim.Native.Nat.{ℕ, zero, suc, _+_, _*_, _/_, _%_, _<_, _≤_}
-use mathlib.Core.Path.{_≡_, refl, sym, ap, _∙_}
+use Prim.Native.Nat.{ℕ, zero, suc, _/_, _%_, _≤_}
+use mathlib.Core.Path.{refl}
 use mathlib.Core.Bool.{Bool, true, false, cond}
 use mathlib.Core.List.{List, []}
 use mathlib.Core.Option.{Option, none, some}
@@ -9,7 +9,7 @@ use borrow.Author.Tests.{ne-eqb}
 use lib.Dec.{eqb, ltb}
 use lib.ListN.{length, getD, take, drop}
 use Rattle.laws.specs.Refusals as Number
-use Rattle.laws.specs.Answers.{Answer, gives, refuses, must}
+use Rattle.laws.specs.Answers.{Answer, gives, refuses}
 use Rattle.words.specs.Words.{u32At}
 use Rattle.blackbox.specs.Record.{recordOf}
 use Rattle.blackbox.specs.Page.{encoded}
@@ -17,10 +17,10 @@ use Rattle.blackbox.specs.declared.FlightRecord.{FlightRecord}
 use Rattle.assembler.specs.Assembler.{fresh, started, marked, laid as laidRow, answered, refusedAs, encodedInto, finishing, filled, pushed, unrecorded, stopped, taken, unfinishedFlight}
 use Rattle.assembler.specs.declared.PageAssembler.{PageAssembler}
 use Rattle.assembler.specs.declared.AssembleAnswer.{AssembleAnswer}
-use Rattle.reply.specs.Reply.{isSet, replyOf, laid, rowed, heldAs}
+use Rattle.reply.specs.Reply.{isSet, laid, rowed, heldAs}
 use Rattle.reply_assembler.specs.Script.{flagged, assembled, took, foundUnfinished, playRow, playFrom, playScript, lastPlayed}
 use Rattle.reply_assembler.specs.declared.Played.{Played}
-use Rattle.reply_laws.specs.Laws.{Listed, Holds, Anything, Proper, RowProper, ZeroGives, EveryAnswer}
+use Rattle.reply_laws.specs.Laws.{Anything, Proper, RowProper, ZeroGives, EveryAnswer}
 use Rattle.reply_laws.proofs.Answers as Each
 
 pub row-proper : RowProper

@@ -3,9 +3,9 @@ use Prim.Native.Nat.{ℕ}
 use mathlib.Core.Path.{_≡_, refl, sym, ap, _∙_}
 use mathlib.Core.Bool.{Bool, true, false}
 use mathlib.Core.Option.{Option, none, some}
-use mathlib.Core.List.{List, [], _∷_}
+use mathlib.Core.List.{List}
 use borrow.Author.Tests.{eq-eqb, ne-eqb}
-use lib.ListN.{length, replicate}
+use lib.ListN.{length}
 use Rattle.laws.specs.Answers.{Answer, gives, refuses, toldYesNo}
 use Rattle.laws.specs.declared.Refusal.{Refusal}
 use Rattle.words.specs.Words.{leBytes}
@@ -21,7 +21,6 @@ use Rattle.sync_ledger.specs.declared.MarkStep.{MarkStep}
 use Rattle.sync_ledger.specs.declared.MarkStep.the-variants as Mark
 use Rattle.log_search.specs.Search.{toldFind}
 use Rattle.log_search.specs.declared.StoredFlight.{StoredFlight}
-use Rattle.log_sync.specs.declared.Recording.{Recording}
 use Rattle.log_sync.specs.declared.Recording.the-variants as Recorded
 use Rattle.records.specs.declared.ScanAnswer.{ScanAnswer}
 use Rattle.records.specs.declared.ScanAnswer.the-variants as ScanAnswers

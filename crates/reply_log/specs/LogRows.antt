@@ -5,8 +5,6 @@ use mathlib.Core.Bool.{Bool, true, false, cond}
 use mathlib.Core.List.{List, [], _∷_, _++_}
 use mathlib.Core.Option.{Option, none, some}
 use lib.Dec.{eqb}
-use lib.ListN.{getD}
-use Rattle.laws.specs.Answers.{Answer, gives, refuses}
 use Rattle.words.specs.Words.{leBytes}
 use Rattle.records.specs.declared.Scan.{Scan}
 use Rattle.records.specs.declared.PageFlight.{PageFlight}
@@ -16,10 +14,8 @@ use Rattle.sync_ledger.specs.declared.BitLocation.{BitLocation}
 use Rattle.sync_ledger.specs.declared.MarkStep.{MarkStep}
 use Rattle.sync_ledger.specs.declared.MarkStep.the-variants as Mark
 use Rattle.log_search.specs.declared.StoredFlight.{StoredFlight}
-use Rattle.log_sync.specs.Sync.{noFlight}
 use Rattle.log_sync.specs.declared.Recording.{Recording}
 use Rattle.log_sync.specs.declared.Recording.the-variants as Recorded
-use Rattle.log_sync.specs.declared.Unsynced.{Unsynced}
 use Rattle.reply.specs.Reply.{isSet, flagOf, someRow}
 
 -- ---- rows

@@ -1,5 +1,5 @@
 -- Each operation, by the row that says it and by the call that does it. Assumes nothing.
-use Prim.Native.Nat.{ℕ, zero, suc, _+_, _*_, _/_, _^_, _<_}
+use Prim.Native.Nat.{ℕ, zero, suc, _+_, _*_, _/_, _^_}
 use mathlib.Core.Path.{_≡_, refl, sym, ap, _∙_}
 use mathlib.Core.Bool.{Bool, true}
 use mathlib.Core.List.{List, []}
@@ -13,8 +13,7 @@ use Rattle.store.specs.Store.{noFaults, part, onImage, onLengths}
 use Rattle.laws.specs.declared.DoneAnswer.{DoneAnswer}
 use Rattle.laws.specs.declared.DoneAnswer.the-variants as Done
 use Rattle.store.proofs.Checks.{on-lengths, image-refused, image-held}
-use Rattle.blackbox.specs.Record.{recordOf, recordDecoded, recordAnswer}
-use Rattle.blackbox.specs.declared.RecordAnswer.{RecordAnswer}
+use Rattle.blackbox.specs.Record.{recordOf}
 use Rattle.records.specs.Scan.{toldScan, scanPages, scanned}
 use Rattle.records.proofs.Faults.{scan-alike}
 use Rattle.records.specs.declared.Scan.{Scan}

@@ -1,6 +1,6 @@
 -- The rig: plays a script on an image, from power-on to power-off, and after each call tells its outcome, its report and the writer's
 -- visible state. Document 01, "Writer and store".
-use Prim.Native.Nat.{ℕ, _*_, _/_, _%_, _^_}
+use Prim.Native.Nat.{ℕ, _*_}
 use mathlib.Core.Bool.{true, cond}
 use mathlib.Core.List.{List, [], _∷_, _++_}
 use mathlib.Core.Option.{Option, none, some}

@@ -6,7 +6,7 @@ use native.Mathlib.Omega.{arith}
 use lib.ListN.{getD}
 use lib.IntN.{ℤ, pos, negsuc}
 use lib.Dec.{lit<}
-use mir.Syntax.{Width, w16}
+use mir.Syntax.{w16}
 use mir.Val.{Val, Fits, SFits, toZ, ofZ}
 use mir.Facts.{toZ-ofZ, ofZ-toZ, toZ-pos, toZ-neg, fits-ofZ}
 use mir.ValLaws.{toZ-fits}

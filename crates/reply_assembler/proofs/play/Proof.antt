@@ -1,7 +1,6 @@
 -- `reply_assembler::play` meets its contract. The loop's invariant: what is left takes the last answer to the script's. Assumes nothing.
 use Prim.Native.Nat.{_-_, _*_, _/_, _≤_}
 use mathlib.Core.Path.{_≡_}
-use native.Mathlib.Omega.{arith}
 use lib.ListN.{length, drop}
 use Rattle.assembler.specs.WellFormed.{SoundAssembler}
 use Rattle.reply_assembler.specs.Script.{playFrom, playScript}

@@ -2,8 +2,6 @@ use native.Mathlib.Omega.{arith}
 use Rattle.rows.proofs.Entries.{row-refused, count-refused, none-refused}
 use Rattle.rows.proofs.row_number.Statement.{statement}
 use Rattle.rows.proofs.row_number.Tie as tie
-use Rattle.rows.proofs.row_number.Reads as reads
-use Rattle.rows.proofs.row_number.Lts as lts
 
 -- src/lib.rt:27:9
 returns : tie.Need-returns

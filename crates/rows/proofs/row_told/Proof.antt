@@ -1,8 +1,6 @@
 use borrow.Author.Needs.{needs}
 use Rattle.rows.proofs.row_told.Statement.{statement}
 use Rattle.rows.proofs.row_told.Tie as tie
-use Rattle.rows.proofs.row_told.Reads as reads
-use Rattle.rows.proofs.row_told.Lts as lts
 
 -- src/lib.rt:84:1
 returns : tie.Need-returns

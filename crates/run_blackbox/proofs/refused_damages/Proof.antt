@@ -1,6 +1,6 @@
 -- `run_blackbox::refused_damages` is safe and ends. The loop's invariant: the page keeps its length. Assumes nothing.
 use Prim.Native.Nat.{_-_, _≤_}
-use mathlib.Core.Path.{_≡_, refl, _∙_}
+use mathlib.Core.Path.{_≡_}
 use lib.ListN.{length}
 use borrow.Author.Needs.{needs}
 use Rattle.run_blackbox.proofs.refused_damages.Statement.{statement}

@@ -1,6 +1,5 @@
 -- `run_replay::line_end` is safe and ends. The loop's invariant: the end lies at or behind the place. Assumes nothing.
 use Prim.Native.Nat.{_-_, _≤_}
-use mathlib.Core.Path.{_≡_}
 use lib.ListN.{length}
 use borrow.Author.Needs.{needs}
 use Rattle.run_replay.proofs.line_end.Statement.{statement}

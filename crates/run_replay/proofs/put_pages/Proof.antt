@@ -1,5 +1,5 @@
 -- `run_replay::put_pages` is safe and ends. The loop's invariant: the image keeps its length. Assumes nothing.
-use Prim.Native.Nat.{_-_, _≤_}
+use Prim.Native.Nat.{_-_}
 use mathlib.Core.Path.{_≡_}
 use lib.ListN.{length}
 use borrow.Author.Needs.{needs}

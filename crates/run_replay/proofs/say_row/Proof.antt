@@ -1,6 +1,5 @@
 -- `run_replay::say_row` is safe and ends. The loop's invariant: what is printed lies in the row. Assumes nothing.
 use Prim.Native.Nat.{_-_, _≤_}
-use mathlib.Core.Path.{_≡_}
 use lib.ListN.{length}
 use borrow.Author.Needs.{needs}
 use Rattle.run_replay.proofs.say_row.Statement.{statement}

@@ -1,7 +1,5 @@
 -- `words::u16_at` meets its contract, byte by byte. Assumes nothing.
-use mathlib.Core.Path.{_≡_, sym, _∙_}
-use lib.ListN.{List·getD-eq-default}
-use Rattle.words.specs.Words.{u16At}
+use mathlib.Core.Path.{sym}
 use Rattle.words.proofs.Numbers.{u16-bytes, past-end}
 use native.Mathlib.Omega.{arith}
 use borrow.Author.Needs.{needs}

@@ -1,6 +1,6 @@
 -- `words::u32_at` meets its contract, byte by byte. Assumes nothing.
 use native.Mathlib.Omega.{arith}
-use mathlib.Core.Path.{_≡_, sym, _∙_}
+use mathlib.Core.Path.{sym}
 use Rattle.words.proofs.Numbers.{u32-bytes, past-end}
 use borrow.Author.Needs.{needs}
 use Rattle.words.proofs.u32_at.Statement.{statement}
