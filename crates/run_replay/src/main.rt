@@ -1,25 +1,13 @@
-// Replays the lists of oracle/src/lists.rs from standard input and prints an answer to each line that asks; the file stdout has what the Rust
-// answered. A line is a word and decimal numbers; oracle/src/lists.rs says what each means. The writer's lines are rows of a script that
+// Replays the lists of oracle/src/lists.rs from standard input by the calls of the archive and prints an answer to each line that asks; the file
+// stdout has what the Rust answered. A line is a word and decimal numbers; oracle/src/lists.rs says what each means. The writer's lines are rows of a script that
 // the rig plays from the image on which it began.
-use blackbox::FlightRecord;
-use blackbox::PageAnswer;
-use laws::DoneAnswer;
-use laws::NumberAnswer;
-use laws::Refusal;
-use laws::YesNoAnswer;
-use layout::AddressAnswer;
-use layout::LayoutAnswer;
-use layout::StorageLayout;
-use log_search::FindAnswer;
-use log_search::StoredFlight;
-use log_sync::Recording;
-use records::FlightAnswer;
-use records::ScanAnswer;
-use sync_ledger::BitAnswer;
-use sync_ledger::HeaderAnswer;
-use sync_ledger::LedgerHeader;
-use sync_ledger::MarkStep;
-use sync_ledger::StepAnswer;
+
+use stipeflute::codec;
+use stipeflute::flash;
+use stipeflute::log;
+use stipeflute::sync;
+use stipeflute::text;
+use stipeflute::writer;
 
 // ---- a line
 
@@ -95,9 +83,9 @@ fn record_bytes(n: u32) -> [u8; 48] {
     bytes
 }
 
-fn record_number(n: u32) -> FlightRecord {
-    let bytes = record_bytes(n);
-    FlightRecord::decode(&bytes).record
+fn put_record(bytes: &mut [u8], at: usize, n: u32) {
+    let record = record_bytes(n);
+    words::put_bytes(bytes, at, &record);
 }
 
 // Byte i of mask number m is m (i + 1) mod 256.
@@ -117,14 +105,14 @@ fn mask_number(m: u32) -> [u8; 256] {
 // A whole page, whose records are numbered from five times its index on.
 fn put_page(image: &mut [u8], page: u32, flight: u32, sequence: u32, count: u32) {
     let first = page % 256 * 5;
-    let rows = [
-        record_number(first),
-        record_number(first + 1),
-        record_number(first + 2),
-        record_number(first + 3),
-        record_number(first + 4),
-    ];
-    let encoded = blackbox::encode_page(flight, sequence, rows, count as usize).page;
+    let mut rows = [0u8; 240];
+    put_record(&mut rows, 0, first);
+    put_record(&mut rows, 48, first + 1);
+    put_record(&mut rows, 96, first + 2);
+    put_record(&mut rows, 144, first + 3);
+    put_record(&mut rows, 192, first + 4);
+    let mut encoded = [0u8; 256];
+    codec::stipeflute_encode_page(flight, sequence, &rows, count, &mut encoded);
     words::put_bytes(image, layout::page_address(page), &encoded);
 }
 
@@ -163,10 +151,6 @@ fn say_number(n: u32) {
     io::write_all(1, b"\n");
 }
 
-fn say_refused(refusal: Refusal) {
-    say_number((refusal.number as u32) + 256 * (refusal.fault as u32));
-}
-
 fn say_byte(b: u8) {
     io::print_hex(1, b as u64, 2);
 }
@@ -182,285 +166,50 @@ fn say_row(row: &[u8]) {
     io::write_all(1, b"\n");
 }
 
-fn flag(b: bool) -> u8 {
-    if b { 1 } else { 0 }
-}
-
-fn say_flag(b: bool) {
-    let row = [flag(b)];
-    say_row(&row);
-}
-
-fn put_word(row: &mut [u8], at: u8, n: u32) {
-    let bytes = words::u32_bytes(n);
-    words::put_bytes(row, at as usize, &bytes);
-}
-
-fn put_flight(row: &mut [u8], at: u8, flight: StoredFlight) {
-    put_word(row, at, flight.flight_id);
-    put_word(row, std::num::wrapping_add_u8(at, 4), flight.start_page);
-    put_word(row, std::num::wrapping_add_u8(at, 8), flight.pages);
-}
-
-// An Option of a number: a flag and the number.
-fn say_option(there: bool, n: u32) {
-    let mut row = [0u8; 5];
-    row[0] = flag(there);
-    put_word(&mut row, 1, n);
-    say_row(&row);
-}
-
-fn say_found(flight: StoredFlight) {
-    let mut row = [0u8; 13];
-    row[0] = 1;
-    put_flight(&mut row, 1, flight);
-    say_row(&row);
-}
-
-fn say_find(answer: FindAnswer) {
-    match answer {
-        FindAnswer::Refused(refusal) => say_refused(refusal),
-        FindAnswer::NotFound => {
-            let row = [0u8; 13];
-            say_row(&row);
-        }
-        FindAnswer::Found(flight) => say_found(flight),
-    }
-}
-
-fn say_yes_no(answer: YesNoAnswer) {
-    match answer {
-        YesNoAnswer::Refused(refusal) => say_refused(refusal),
-        YesNoAnswer::Yes => say_flag(true),
-        YesNoAnswer::No => say_flag(false),
-    }
-}
-
-fn say_scan(answer: ScanAnswer) {
-    match answer {
-        ScanAnswer::Refused(refusal) => say_refused(refusal),
-        ScanAnswer::Scanned(scan) => {
-            let mut row = [0u8; 9];
-            put_word(&mut row, 0, scan.next_page);
-            put_word(&mut row, 4, scan.next_flight);
-            row[8] = flag(scan.writable);
-            say_row(&row);
-        }
-    }
-}
-
-fn say_flight(answer: FlightAnswer) {
-    match answer {
-        FlightAnswer::Refused(refusal) => say_refused(refusal),
-        FlightAnswer::NoFlight => say_option(false, 0),
-        FlightAnswer::Flight(flight) => say_option(true, flight.flight_id),
-    }
-}
-
-fn say_page(answer: PageAnswer) {
-    match answer {
-        PageAnswer::Refused(refusal) => say_refused(refusal),
-        PageAnswer::Decoded(metadata) => {
-            let mut row = [0u8; 9];
-            put_word(&mut row, 0, metadata.flight_id);
-            put_word(&mut row, 4, metadata.page_sequence);
-            row[8] = metadata.record_count;
-            say_row(&row);
-        }
-    }
-}
-
-fn say_record(page: &[u8], index: u32) {
-    let answer = blackbox::record_from_page(page, index as usize);
-    if answer.refused != 0 {
-        say_number(answer.refused as u32);
+// What a call answers: the row, or the reply alone where it is refused.
+fn say(reply: u32, row: &[u8]) {
+    if reply != 0 {
+        say_number(reply);
         return;
     }
-    let record = answer.record;
-    let bytes = record.encode();
-    say_row(&bytes);
+    say_row(row);
 }
 
-fn say_bit(answer: BitAnswer) {
-    match answer {
-        BitAnswer::Refused(refusal) => say_refused(refusal),
-        BitAnswer::At(place) => {
-            let mut row = [0u8; 5];
-            put_word(&mut row, 0, place.address);
-            row[4] = place.mask;
-            say_row(&row);
-        }
-    }
-}
-
-fn say_header(answer: HeaderAnswer) {
-    match answer {
-        HeaderAnswer::Refused(refusal) => say_refused(refusal),
-        HeaderAnswer::Header(header) => match header {
-            LedgerHeader::Blank => say_row(b"\x00"),
-            LedgerHeader::Valid => say_row(b"\x01"),
-            LedgerHeader::Foreign => say_row(b"\x02"),
-        },
-    }
-}
-
-fn say_mark(kind: u8, address: u32, value: u8) {
-    let mut row = [0u8; 6];
-    row[0] = kind;
-    put_word(&mut row, 1, address);
-    row[5] = value;
-    say_row(&row);
-}
-
-fn say_plan(answer: StepAnswer) {
-    match answer {
-        StepAnswer::Refused(refusal) => say_refused(refusal),
-        StepAnswer::Step(step) => match step {
-            MarkStep::EraseLedger { address } => say_mark(0, address, 0),
-            MarkStep::ProgramHeader { address } => say_mark(1, address, 0),
-            MarkStep::ProgramBit { address, value } => say_mark(2, address, value),
-            MarkStep::Done => say_mark(3, 0, 0),
-        },
-    }
-}
-
-fn say_done(answer: DoneAnswer) {
-    match answer {
-        DoneAnswer::Done => say_number(0),
-        DoneAnswer::Refused(refusal) => say_refused(refusal),
-    }
-}
-
-fn say_address(answer: AddressAnswer) {
-    match answer {
-        AddressAnswer::Refused(refusal) => say_refused(refusal),
-        AddressAnswer::NoAddress => say_option(false, 0),
-        AddressAnswer::Address(address) => say_option(true, address),
-    }
-}
-
-fn say_count(answer: NumberAnswer) {
-    match answer {
-        NumberAnswer::Refused(refusal) => say_refused(refusal),
-        NumberAnswer::Number(n) => {
-            let row = words::u32_bytes(n);
-            say_row(&row);
-        }
-    }
-}
-
-fn say_layout(answer: LayoutAnswer) {
-    if answer.refused != 0 {
-        say_number(answer.refused as u32);
+// The same of a text behind its length, without the zeros behind it.
+fn say_text(reply: u32, row: &[u8]) {
+    let end = (words::u32_at(row, 0) as usize) + 4;
+    if row.len() < end {
         return;
     }
-    let layout = answer.layout;
-    let slots = layout.config_slot_addresses;
-    let mut row = [0u8; 20];
-    put_word(&mut row, 0, layout.capacity_bytes);
-    put_word(&mut row, 4, slots[0]);
-    put_word(&mut row, 8, slots[1]);
-    put_word(&mut row, 12, layout.log_start_address);
-    put_word(&mut row, 16, layout.log_page_count);
-    say_row(&row);
+    say(reply, &row[0..end]);
 }
 
-// A text behind its length.
-fn say_text(text: &[u8], len: usize) {
-    if 472 < len {
-        return;
-    }
-    let mut row = [0u8; 476];
-    let size = words::u32_bytes(len as u32);
-    words::put_bytes(&mut row, 0, &size);
-    words::put_bytes(&mut row, 4, text);
-    let end = 4 + len;
-    say_row(&row[0..end]);
+// ---- what a line's numbers stand for
+
+fn one_if(n: u32) -> u8 {
+    if n == 0 { 0 } else { 1 }
 }
 
-fn say_lines(flights: [StoredFlight; 8], count: u32, more: bool) {
-    let lines = log_lines::unsynced_lines(flights, count as usize, more);
-    if lines.refused != 0 {
-        say_number(lines.refused as u32);
-        return;
-    }
-    let text = lines.text;
-    say_text(&text, lines.len);
+// Entry i of a `lines` line: flight F + i, start (i + 1) F, i pages; answers the next one's start.
+fn put_entry(rows: &mut [u8], i: u8, f: u32, start: u32) -> u32 {
+    let at = (i as usize) * 12;
+    words::put_u32(rows, at, std::num::wrapping_add_u32(f, i as u32));
+    words::put_u32(rows, at + 4, start);
+    words::put_u32(rows, at + 8, i as u32);
+    std::num::wrapping_add_u32(start, f)
 }
 
-fn say_err(number: u8) {
-    let line = log_lines::ack_response(number);
-    let text = line.text;
-    say_text(&text, line.len);
-}
-
-fn say_list(list: log_sync::Unsynced) {
-    if list.refused != 0 {
-        say_number((list.refused as u32) + 256 * (list.fault as u32));
-        return;
-    }
-    let flights = list.flights;
-    let mut row = [0u8; 98];
-    row[0] = (list.count % 256) as u8;
-    row[1] = flag(list.more);
-    put_flight(&mut row, 2, flights[0]);
-    put_flight(&mut row, 14, flights[1]);
-    put_flight(&mut row, 26, flights[2]);
-    put_flight(&mut row, 38, flights[3]);
-    put_flight(&mut row, 50, flights[4]);
-    put_flight(&mut row, 62, flights[5]);
-    put_flight(&mut row, 74, flights[6]);
-    put_flight(&mut row, 86, flights[7]);
-    say_row(&row);
-}
-
-// Entry i of a `lines` line: flight F + i, start (i + 1) F, i pages.
-fn entry(flight_id: u32, start_page: u32, pages: u32) -> StoredFlight {
-    StoredFlight {
-        flight_id: std::num::wrapping_add_u32(flight_id, pages),
-        start_page,
-        pages,
-    }
-}
-
-fn entries(f: u32) -> [StoredFlight; 8] {
-    let b = std::num::wrapping_add_u32(f, f);
-    let c = std::num::wrapping_add_u32(b, f);
-    let d = std::num::wrapping_add_u32(c, f);
-    let e = std::num::wrapping_add_u32(d, f);
-    let g = std::num::wrapping_add_u32(e, f);
-    let h = std::num::wrapping_add_u32(g, f);
-    let i = std::num::wrapping_add_u32(h, f);
-    [
-        entry(f, f, 0),
-        entry(f, b, 1),
-        entry(f, c, 2),
-        entry(f, d, 3),
-        entry(f, e, 4),
-        entry(f, g, 5),
-        entry(f, h, 6),
-        entry(f, i, 7),
-    ]
-}
-
-fn recording(is_recording: u32, flight: u32) -> Recording {
-    if is_recording == 0 {
-        return Recording::Nothing;
-    }
-    Recording::Flight(flight)
-}
-
-fn step_of(kind: u32, address: u32, value: u8) -> MarkStep {
-    if kind == 0 {
-        return MarkStep::EraseLedger { address };
-    }
-    if kind == 1 {
-        return MarkStep::ProgramHeader { address };
-    }
-    if kind == 2 {
-        return MarkStep::ProgramBit { address, value };
-    }
-    MarkStep::Done
+fn entries(f: u32) -> [u8; 96] {
+    let mut rows = [0u8; 96];
+    let b = put_entry(&mut rows, 0, f, f);
+    let c = put_entry(&mut rows, 1, f, b);
+    let d = put_entry(&mut rows, 2, f, c);
+    let e = put_entry(&mut rows, 3, f, d);
+    let g = put_entry(&mut rows, 4, f, e);
+    let h = put_entry(&mut rows, 5, f, g);
+    let i = put_entry(&mut rows, 6, f, h);
+    put_entry(&mut rows, 7, f, i);
+    rows
 }
 
 // ---- lines that ask
@@ -468,27 +217,43 @@ fn step_of(kind: u32, address: u32, value: u8) -> MarkStep {
 // Calls that need no image; whether the line was one.
 fn calls(line: &[u8]) -> bool {
     if is_word(line, b"layout") {
-        say_layout(StorageLayout::new(num(line, 0)));
+        let mut row = [0u8; 20];
+        let reply = flash::stipeflute_storage_layout(num(line, 0), &mut row);
+        say(reply, &row);
         return true;
     }
     if is_word(line, b"sectors") {
-        say_count(layout::log_sector_count(num(line, 0)));
+        let mut row = [0u8; 4];
+        let reply = flash::stipeflute_log_sector_count(num(line, 0), &mut row);
+        say(reply, &row);
         return true;
     }
     if is_word(line, b"ledger") {
-        say_count(layout::sync_ledger_address(num(line, 0)));
+        let mut row = [0u8; 4];
+        let reply = flash::stipeflute_sync_ledger_address(num(line, 0), &mut row);
+        say(reply, &row);
         return true;
     }
     if is_word(line, b"address") {
-        say_address(layout::log_page_address(num(line, 0), num(line, 1)));
+        let mut row = [0u8; 5];
+        let reply = flash::stipeflute_log_page_address(num(line, 0), num(line, 1), &mut row);
+        say(reply, &row);
         return true;
     }
     if is_word(line, b"erase") {
-        say_address(layout::log_erase_sector_address(num(line, 0), num(line, 1)));
+        let mut row = [0u8; 5];
+        let reply = flash::stipeflute_log_erase_sector_address(
+            num(line, 0),
+            num(line, 1),
+            &mut row,
+        );
+        say(reply, &row);
         return true;
     }
     if is_word(line, b"place") {
-        say_bit(sync_ledger::bit_location(num(line, 0), num(line, 1)));
+        let mut row = [0u8; 5];
+        let reply = sync::stipeflute_bit_location(num(line, 0), num(line, 1), &mut row);
+        say(reply, &row);
         return true;
     }
     texts(line)
@@ -496,67 +261,53 @@ fn calls(line: &[u8]) -> bool {
 
 fn texts(line: &[u8]) -> bool {
     if is_word(line, b"scratch") {
-        let page = records::scratch_test_page();
-        say_row(&page);
+        let mut row = [0u8; 256];
+        let reply = codec::stipeflute_scratch_test_page(&mut row);
+        say(reply, &row);
         return true;
     }
     if is_word(line, b"err") {
-        say_err(byte(line, 0));
+        let mut row = [0u8; 60];
+        let reply = text::stipeflute_ack_response(byte(line, 0), &mut row);
+        say_text(reply, &row);
         return true;
     }
     if is_word(line, b"lines") {
         let flights = entries(num(line, 2));
-        say_lines(flights, num(line, 0), num(line, 1) != 0);
+        let mut row = [0u8; 476];
+        let more = one_if(num(line, 1));
+        let reply = text::stipeflute_unsynced_lines(&flights, num(line, 0), more, &mut row);
+        say_text(reply, &row);
         return true;
     }
     false
 }
 
-// Scan, pages and search.
+// Scan and search.
 fn searches(line: &[u8], c: u32, image: &[u8], faults: &[u8]) -> bool {
+    let n = num(line, 0);
     if is_word(line, b"scan") {
-        say_scan(records::scan_log(c, image, faults));
+        let mut row = [0u8; 9];
+        let reply = log::stipeflute_scan_log(c, image, faults, &mut row);
+        say(reply, &row);
         return true;
     }
     if is_word(line, b"flight") {
-        say_flight(records::page_flight_id(c, image, faults, num(line, 0)));
+        let mut row = [0u8; 5];
+        let reply = log::stipeflute_page_flight_id(c, image, faults, n, &mut row);
+        say(reply, &row);
         return true;
     }
     if is_word(line, b"find") {
-        say_find(log_search::find_flight(c, image, faults, num(line, 0), num(line, 1)));
+        let mut row = [0u8; 13];
+        let reply = log::stipeflute_find_flight(c, image, faults, n, num(line, 1), &mut row);
+        say(reply, &row);
         return true;
     }
     if is_word(line, b"older") {
-        say_find(log_search::older_flight(c, image, faults, num(line, 0)));
-        return true;
-    }
-    if is_word(line, b"page") {
-        say_page(blackbox::decode_page(records::page_part(image, num(line, 0))));
-        return true;
-    }
-    if is_word(line, b"record") {
-        say_record(records::page_part(image, num(line, 0)), num(line, 1));
-        return true;
-    }
-    false
-}
-
-// The ledger.
-fn ledger(line: &[u8], c: u32, image: &[u8], faults: &[u8]) -> bool {
-    if is_word(line, b"header") {
-        say_header(sync_ledger::read_header(c, image, faults));
-        return true;
-    }
-    if is_word(line, b"bit") {
-        say_bit(sync_ledger::bit_location(c, num(line, 0)));
-        return true;
-    }
-    if is_word(line, b"synced") {
-        say_yes_no(sync_ledger::is_synced(c, image, faults, num(line, 0)));
-        return true;
-    }
-    if is_word(line, b"plan") {
-        say_plan(sync_ledger::next_mark_step(c, image, faults, num(line, 0)));
+        let mut row = [0u8; 13];
+        let reply = log::stipeflute_older_flight(c, image, faults, n, &mut row);
+        say(reply, &row);
         return true;
     }
     false
@@ -570,31 +321,24 @@ fn say_crc(image: &[u8], at: usize, len: usize) {
         return;
     }
     let end = at + len;
-    let row = words::u32_bytes(crc32::crc32(&image[at..end]));
-    say_row(&row);
+    let mut row = [0u8; 4];
+    let reply = codec::stipeflute_crc32(&image[at..end], &mut row);
+    say(reply, &row);
 }
 
-// Lists, acknowledgements and checksums.
-fn syncs(line: &[u8], c: u32, image: &[u8], faults: &[u8]) -> bool {
-    let now = recording(num(line, 1), num(line, 2));
-    if is_word(line, b"list") {
-        say_list(log_sync::unsynced_flights(c, image, faults, num(line, 0), now));
+// The bytes of a page, and checksums.
+fn pages(line: &[u8], image: &[u8]) -> bool {
+    let page = records::page_part(image, num(line, 0));
+    if is_word(line, b"page") {
+        let mut row = [0u8; 9];
+        let reply = codec::stipeflute_decode_page(page, &mut row);
+        say(reply, &row);
         return true;
     }
-    if is_word(line, b"all") {
-        say_yes_no(log_sync::all_synced(c, image, faults, num(line, 0), now));
-        return true;
-    }
-    if is_word(line, b"ack") {
-        say_done(log_sync::check_ack(
-            c,
-            image,
-            faults,
-            num(line, 0),
-            now,
-            num(line, 3),
-            num(line, 4),
-        ));
+    if is_word(line, b"record") {
+        let mut row = [0u8; 48];
+        let reply = codec::stipeflute_record_from_page(page, num(line, 1), &mut row);
+        say(reply, &row);
         return true;
     }
     if is_word(line, b"crc") {
@@ -604,8 +348,66 @@ fn syncs(line: &[u8], c: u32, image: &[u8], faults: &[u8]) -> bool {
     false
 }
 
+// The ledger.
+fn ledger(line: &[u8], c: u32, image: &[u8], faults: &[u8]) -> bool {
+    let flight = num(line, 0);
+    if is_word(line, b"header") {
+        let mut row = [0u8; 1];
+        let reply = sync::stipeflute_read_header(c, image, faults, &mut row);
+        say(reply, &row);
+        return true;
+    }
+    if is_word(line, b"bit") {
+        let mut row = [0u8; 5];
+        let reply = sync::stipeflute_bit_location(c, flight, &mut row);
+        say(reply, &row);
+        return true;
+    }
+    if is_word(line, b"synced") {
+        let mut row = [0u8; 1];
+        let reply = sync::stipeflute_is_synced(c, image, faults, flight, &mut row);
+        say(reply, &row);
+        return true;
+    }
+    if is_word(line, b"plan") {
+        let mut row = [0u8; 6];
+        let reply = sync::stipeflute_next_mark_step(c, image, faults, flight, &mut row);
+        say(reply, &row);
+        return true;
+    }
+    false
+}
+
+// Lists and acknowledgements: U used pages, whether a flight is recorded and which.
+fn syncs(line: &[u8], c: u32, image: &[u8], faults: &[u8]) -> bool {
+    let used = num(line, 0);
+    let is = one_if(num(line, 1));
+    let now = num(line, 2);
+    if is_word(line, b"list") {
+        let mut row = [0u8; 98];
+        let reply = text::stipeflute_unsynced_flights(c, image, faults, used, is, now, &mut row);
+        say(reply, &row);
+        return true;
+    }
+    if is_word(line, b"all") {
+        let mut row = [0u8; 1];
+        let reply = sync::stipeflute_all_synced(c, image, faults, used, is, now, &mut row);
+        say(reply, &row);
+        return true;
+    }
+    if is_word(line, b"ack") {
+        let f = num(line, 3);
+        say_number(sync::stipeflute_check_ack(c, image, faults, used, is, now, f, num(line, 4)));
+        return true;
+    }
+    false
+}
+
 fn asks(line: &[u8], c: u32, image: &[u8], faults: &[u8]) -> bool {
     if searches(line, c, image, faults) {
+        return true;
+    }
+    if pages(line, image) {
         return true;
     }
     if ledger(line, c, image, faults) {
@@ -647,8 +449,11 @@ fn steps(line: &[u8], c: u32, image: &mut [u8]) -> bool {
         return false;
     }
     let keep = mask_number(num(line, 3));
-    let step = step_of(num(line, 0), num(line, 1), byte(line, 2));
-    say_done(sync_ledger::start_mark_step(c, image, step, &keep, byte(line, 4)));
+    let kind = byte(line, 0);
+    let address = num(line, 1);
+    let value = byte(line, 2);
+    let device = byte(line, 4);
+    say_number(sync::stipeflute_start_mark_step(c, image, kind, address, value, &keep, device));
     true
 }
 
@@ -668,10 +473,8 @@ fn put_head(
 }
 
 fn put_numbers(script: &mut [u8], row: u16, first: u32, second: u32) {
-    let one = words::u32_bytes(first);
-    let two = words::u32_bytes(second);
-    words::put_bytes(script, (row as usize) * 288 + 8, &one);
-    words::put_bytes(script, (row as usize) * 288 + 12, &two);
+    words::put_u32(script, (row as usize) * 288 + 8, first);
+    words::put_u32(script, (row as usize) * 288 + 12, second);
 }
 
 fn put_payload(script: &mut [u8], row: u16, payload: &[u8]) {
@@ -682,10 +485,6 @@ fn put_offer(script: &mut [u8], row: u16, n: u32) {
     let record = record_bytes(n);
     put_head(script, row, 0, 0, 0, 0, 0);
     put_payload(script, row, &record);
-}
-
-fn one_if(n: u32) -> u8 {
-    flag(n != 0)
 }
 
 // The rows of a line from row `row` on, and how many they are.
@@ -791,10 +590,12 @@ fn say_last(told: &[u8]) {
 }
 
 fn play_rows(c: u32, image: &mut [u8], script: &[u8], told: &mut [u8]) {
-    match rig::play(c, image, script, told) {
-        DoneAnswer::Refused(refusal) => say_refused(refusal),
-        DoneAnswer::Done => say_last(told),
+    let reply = writer::stipeflute_rig(c, image, script, told);
+    if reply != 0 {
+        say_number(reply);
+        return;
     }
+    say_last(told);
 }
 
 // The script's rows played on the image, and what the last of them tells.
