@@ -141,6 +141,17 @@ uint32_t stipeflute_erase_sector_4k(uint32_t capacity_bytes, uint8_t *image, siz
 uint32_t stipeflute_scan_log(uint32_t capacity_bytes, const uint8_t *image, size_t image_len, const uint8_t *faults, size_t faults_len,
                              uint8_t *answer, size_t answer_len);
 
+/* Why the scan answers as it does: the first that holds of
+ *   1  page 0 is used and doesn't decode: its decode refusal at 1
+ *   2  the last two used pages don't decode: their decode refusals at 1 and 2, their page indexes at 3 and 7, the earlier page's first
+ *   3  the halving finds no blank page
+ *   0  nothing is wrong
+ * With 1 and 2 the scan says foreign, with 3 it says that the log is full, with 0 that it may be written. A decode refusal is
+ * 2, 3, 1 or 4. It reads what the scan reads; a fault elsewhere changes nothing.
+ * answer, 11: reason 0, refusal 1, refusal 2, page (u32) 3, page (u32) 7, each 0 where it isn't said above. Refused: 5, 17, 6. */
+uint32_t stipeflute_explain(uint32_t capacity_bytes, const uint8_t *image, size_t image_len, const uint8_t *faults, size_t faults_len,
+                            uint8_t *answer, size_t answer_len);
+
 /* The flight that a log page counts with: its own, else that of the page before it, else none.
  * answer, 5: flag 0, flight (u32) 1. Refused: 5, 17, 7 (a page past the log), 6. */
 uint32_t stipeflute_page_flight_id(uint32_t capacity_bytes, const uint8_t *image, size_t image_len, const uint8_t *faults,

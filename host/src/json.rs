@@ -3,7 +3,7 @@
 use std::fmt::{self, Write as _};
 use std::io;
 
-use stipeflute::{Refusal, Refused};
+use stipeflute::{Reason, Refusal, Refused};
 
 use crate::dump::Dump;
 use crate::log::Log;
@@ -121,6 +121,7 @@ impl Head<'_> {
                     ("next_flight", scan.next_flight.into()),
                     ("writable", scan.writable.into()),
                     ("foreign", self.log.foreign().into()),
+                    ("reason", reason(self.log.reason)),
                 ]),
             ),
             ("ledger", format!("{:?}", self.log.ledger).as_str().into()),
@@ -128,6 +129,20 @@ impl Head<'_> {
             ("refused", self.refused.map_or(Json::Null, why)),
         ]
     }
+}
+
+/// The reason's name, and the pages that it names, each with its decode refusal.
+fn reason(reason: Reason) -> Json {
+    let page = |index: u32, refused: Refusal| Json::Object(vec![("page", index.into()), ("refused", refused.into())]);
+    let (name, pages) = match reason {
+        Reason::FirstTorn(refused) => ("FirstTorn", vec![page(0, refused)]),
+        Reason::LastTorn { earlier_page, earlier, later_page, later } => {
+            ("LastTorn", vec![page(earlier_page, earlier), page(later_page, later)])
+        }
+        Reason::Full => ("Full", Vec::new()),
+        Reason::Nothing => ("Nothing", Vec::new()),
+    };
+    Json::Object(vec![("name", name.into()), ("pages", Json::List(pages))])
 }
 
 fn why(stop: &Stop) -> Json {

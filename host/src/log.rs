@@ -3,8 +3,8 @@
 use std::ops::Range;
 
 use stipeflute::{
-    FLASH_PAGE_LEN, Flash, LedgerHeader, PageMetadata, Refusal, Refused, Scan, StorageLayout, StoredFlight, decode_page, find_flight,
-    is_synced, page_flight_id, read_header, scan_log,
+    FLASH_PAGE_LEN, Flash, LedgerHeader, PageMetadata, Reason, Refusal, Refused, Scan, StorageLayout, StoredFlight, decode_page, explain,
+    find_flight, is_synced, page_flight_id, read_header, scan_log,
 };
 
 use crate::dump::Dump;
@@ -26,6 +26,8 @@ const PAST_THE_LOG: Refused = Refused { refusal: Refusal::Corrupt, fault: 0 };
 pub struct Log<'a> {
     pub layout: StorageLayout,
     pub scan: Scan,
+    /// Why the scan answers so.
+    pub reason: Reason,
     pub ledger: LedgerHeader,
     /// Every log page.
     pub pages: Vec<Page>,
@@ -35,7 +37,8 @@ pub struct Log<'a> {
 impl<'a> Log<'a> {
     pub fn of(dump: &'a Dump) -> Result<Log<'a>, Stop> {
         let flash = dump.flash();
-        let mut log = Log { layout: dump.layout, scan: scan_log(flash)?, ledger: read_header(flash)?, pages: Vec::new(), flash };
+        let (scan, reason) = (scan_log(flash)?, explain(flash)?);
+        let mut log = Log { layout: dump.layout, scan, reason, ledger: read_header(flash)?, pages: Vec::new(), flash };
         let mut probe = Probe::new();
         for index in 0..log.layout.log_page_count {
             log.pages.push(page(log.bytes(index)?.1, &mut probe)?);
@@ -43,9 +46,9 @@ impl<'a> Log<'a> {
         Ok(log)
     }
 
-    /// Whether the scan found a foreign log: the one answer with next page 0 that may not be written.
+    /// Whether the scan found a foreign log: it does for these two reasons.
     pub fn foreign(&self) -> bool {
-        self.scan.next_page == 0 && !self.scan.writable
+        matches!(self.reason, Reason::FirstTorn(_) | Reason::LastTorn { .. })
     }
 
     /// Whether a page lies below the scan's page, and so counts as used.

@@ -313,6 +313,7 @@ fn ask(run: &mut Run, random: &mut Seeded, image: &Image) {
     }
     used.push(random.below(u64::from(image.pages()) + 2) as u32);
     used.push(random.number());
+    row!(run, random, 11, explain(capacity, bytes, faults), "{lens}");
     for index in
         [0, image.used.saturating_sub(1), image.used, image.pages(), random.below(u64::from(image.pages())) as u32, random.number()]
     {
@@ -448,6 +449,7 @@ pub fn pattern(run: &mut Run, index: u64) {
     run.shape = format!("pattern {index}");
     let (capacity, bytes, faults) = (20_480, &image.bytes[..], &image.faults[..]);
     row!(run, &mut random, 9, scan_log(capacity, bytes, faults), "");
+    row!(run, &mut random, 11, explain(capacity, bytes, faults), "");
     for used in [image.used, random.below(17) as u32] {
         search(run, &mut random, &image, used, 1, (capacity, bytes, faults), "");
     }

@@ -14,7 +14,7 @@
 //!
 //! Lines that ask print the reply and the row that include/stipeflute.h gives the call, in hexadecimal, without the zeros behind a text:
 //!
-//!   scan | flight I | find U F | older E | header | bit F | synced F | plan F | list U S R | all U S R | ack U S R F P
+//!   scan | explain | flight I | find U F | older E | header | bit F | synced F | plan F | list U S R | all U S R | ack U S R F P
 //!   step K A V M Y     start_mark_step of kind K at address A with value V, mask number M and reply Y
 //!   page P | record P I   decode_page and record_from_page of the page at P
 //!   crc A N            the checksum of N bytes from address A on
@@ -184,6 +184,7 @@ impl Player {
         }
         let reply = match word {
             "scan" => both!(9, scan_log(c, bytes, faults)),
+            "explain" => both!(11, explain(c, bytes, faults)),
             "flight" => both!(5, page_flight_id(c, bytes, faults, n[0])),
             "find" => both!(13, find_flight(c, bytes, faults, n[0], n[1])),
             "older" => both!(13, older_flight(c, bytes, faults, n[0])),
@@ -329,6 +330,7 @@ fn questions(random: &mut Seeded, lines: &mut Vec<String>, used: u32, first: u32
         _ => first.wrapping_add(random.below(8) as u32),
     };
     lines.push("scan".into());
+    lines.push("explain".into());
     lines.push(format!("flight {}", random.below(u64::from(used) + 2)));
     lines.push(format!("page {}", used.saturating_sub(1)));
     lines.push(format!("record {} {}", used.saturating_sub(1), random.below(6)));
@@ -383,6 +385,7 @@ fn make_life(random: &mut Seeded, lines: &mut Vec<String>, any: bool) {
     }
     lines.push("power".into());
     lines.push("scan".into());
+    lines.push("explain".into());
     lines.push("crc 12288 4096".into());
 }
 

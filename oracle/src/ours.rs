@@ -121,6 +121,12 @@ pub fn scan_log(capacity_bytes: u32, image: &[u8], faults: &[u8], answer: &mut [
     }
 }
 
+pub fn explain(capacity_bytes: u32, image: &[u8], faults: &[u8], answer: &mut [u8]) -> u32 {
+    unsafe {
+        stipeflute_explain(capacity_bytes, image.as_ptr(), image.len(), faults.as_ptr(), faults.len(), answer.as_mut_ptr(), answer.len())
+    }
+}
+
 pub fn page_flight_id(capacity_bytes: u32, image: &[u8], faults: &[u8], index: u32, answer: &mut [u8]) -> u32 {
     unsafe {
         stipeflute_page_flight_id(

@@ -338,6 +338,36 @@ pub fn scan_log(capacity_bytes: u32, image: &[u8], faults: &[u8], answer: &mut [
     tell(answer, told)
 }
 
+/// Document 02's P1 read a second time: the Rust has no such call. The pages that its scan reads last are the last used page and, if that one
+/// doesn't decode, the page before it.
+pub fn explain(capacity_bytes: u32, image: &[u8], faults: &[u8], answer: &mut [u8]) -> u32 {
+    let told = on_store(capacity_bytes, image, faults, (answer.len(), 11)).and_then(|layout| {
+        let (mut read, mut pages) = (reader(image, faults), Vec::new());
+        let (next_page, _, writable) = records::scan_log(layout, |address, page| {
+            pages.push((address - layout.log_start_address) / 256);
+            read(address, page)
+        })?;
+        let refusal = |page: u32| {
+            let at = (layout.log_start_address + 256 * page) as usize;
+            blackbox::decode_page(image[at..at + 256].try_into().unwrap()).err().map(Refused::from)
+        };
+        let reason = |reason: u8, refusals: [u8; 2], pages: [u32; 2]| [&[reason, refusals[0], refusals[1]][..], &words(&pages)].concat();
+        if writable {
+            return Ok(reason(0, [0; 2], [0; 2]));
+        }
+        if next_page != 0 {
+            return Ok(reason(3, [0; 2], [0; 2]));
+        }
+        if let Some(first) = refusal(0) {
+            return Ok(reason(1, [first.0, 0], [0; 2]));
+        }
+        let [.., later, earlier] = pages[..] else { unreachable!("a foreign log whose page 0 decodes has two pages read") };
+        let refused = |page| refusal(page).expect("a foreign log whose page 0 decodes ends in two that don't").0;
+        Ok(reason(2, [refused(earlier), refused(later)], [earlier, later]))
+    });
+    tell(answer, told)
+}
+
 pub fn page_flight_id(capacity_bytes: u32, image: &[u8], faults: &[u8], index: u32, answer: &mut [u8]) -> u32 {
     let told = on_store(capacity_bytes, image, faults, (answer.len(), 5)).and_then(|layout| {
         let mut read = reader(image, faults);

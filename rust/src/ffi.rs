@@ -80,6 +80,15 @@ extern "C" {
         answer: *mut u8,
         answer_len: usize,
     ) -> u32;
+    pub fn stipeflute_explain(
+        capacity_bytes: u32,
+        image: *const u8,
+        image_len: usize,
+        faults: *const u8,
+        faults_len: usize,
+        answer: *mut u8,
+        answer_len: usize,
+    ) -> u32;
     pub fn stipeflute_page_flight_id(
         capacity_bytes: u32,
         image: *const u8,

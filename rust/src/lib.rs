@@ -17,7 +17,7 @@ pub use codec::{
     PageMetadata, FLASH_PAGE_LEN, RECORDS_PER_PAGE, RECORD_LEN,
 };
 pub use flash::{erase_sector_4k, page_program, read, Flash, StorageLayout};
-pub use log::{find_flight, older_flight, page_flight_id, scan_log, Scan, StoredFlight};
+pub use log::{explain, find_flight, older_flight, page_flight_id, scan_log, Reason, Scan, StoredFlight};
 pub use sync::{
     ack_response, all_synced, bit_location, check_ack, is_synced, next_mark_step, read_header, start_mark_step, unsynced_flights,
     unsynced_lines, LedgerHeader, MarkStep, Text, Unsynced, MAX_LISTED_FLIGHTS,

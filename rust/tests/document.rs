@@ -98,6 +98,45 @@ fn scratch_page() {
 }
 
 #[test]
+fn explains() {
+    let (torn, blank) = ([0; 256], [0xff; 256]);
+    let mut newer = page(1, 0);
+    newer[242] = 2;
+    let last = |earlier_page, earlier, later| Reason::LastTorn { earlier_page, earlier, later_page: earlier_page + 1, later };
+    let magic = Refusal::InvalidMagic;
+    let mut begins_blank = vec![page(1, 0); 9];
+    begins_blank[0] = blank;
+    let cases = [
+        (vec![], Reason::Nothing),
+        (vec![page(1, 0), torn], Reason::Nothing),
+        (vec![page(1, 0), torn, newer], last(1, magic, Refusal::UnsupportedVersion)),
+        (vec![page(1, 0), newer, torn], last(1, Refusal::UnsupportedVersion, magic)),
+        (vec![newer, torn, torn], Reason::FirstTorn(Refusal::UnsupportedVersion)),
+        (vec![torn], Reason::FirstTorn(magic)),
+        (begins_blank, Reason::FirstTorn(magic)),
+        (vec![page(2, 0); 16], Reason::Full),
+        (vec![torn; 16], Reason::FirstTorn(magic)),
+    ];
+    for (pages, reason) in cases {
+        assert_eq!(explain(flash(&image(&pages))), Ok(reason));
+    }
+    // A fault in a page that is not read changes nothing; in one that is, it refuses.
+    let log = image(&[page(1, 0), page(1, 1), torn, torn]);
+    let at = |index: usize| {
+        let mut faults = [0; 80];
+        faults[48 + index] = 9;
+        explain(Flash { faults: &faults, ..flash(&log) })
+    };
+    assert_eq!(at(6), Ok(last(2, magic, magic)));
+    for read in [8, 4, 2, 3, 0] {
+        assert_eq!(at(read), Err(Refused { refusal: Refusal::Device, fault: 9 }));
+    }
+    let capacity = Flash { capacity_bytes: 20_481, image: &[], ..flash(&log) };
+    assert_eq!(explain(capacity), Err(refused(Refusal::InvalidLayout)));
+    assert_eq!(explain(Flash { image: &log[1..], ..flash(&log) }), Err(refused(Refusal::BadLength)));
+}
+
+#[test]
 fn scans() {
     let torn = [0; 256];
     let cases = [

@@ -156,6 +156,7 @@ fn no_call_uses_more_stack_than_the_header_says() {
         stipeflute_page_program(CAPACITY, image.as_mut_ptr(), LEN, 12_288, page.as_ptr(), 256, keep.as_ptr(), 256, 0);
         stipeflute_erase_sector_4k(CAPACITY, image.as_mut_ptr(), LEN, 12_288, 0);
         stipeflute_scan_log(CAPACITY, i, LEN, f, 240, a, 9);
+        stipeflute_explain(CAPACITY, i, LEN, f, 240, a, 11);
         stipeflute_page_flight_id(CAPACITY, i, LEN, f, 240, 3, a, 5);
         stipeflute_find_flight(CAPACITY, i, LEN, f, 240, 176, 40, a, 13);
         stipeflute_older_flight(CAPACITY, i, LEN, f, 240, 176, a, 13);

@@ -2,7 +2,7 @@
 -- the used pages is foreign exactly if page 0 or the last two of them are torn. Assumes nothing.
 use Prim.Native.Nat.{ℕ, zero, suc, _+_, _-_, _≤_, _<_}
 use mathlib.Core.Path.{_≡_, refl, sym, ap, ap₂, _∙_}
-use mathlib.Core.Bool.{true, false, false≢true}
+use mathlib.Core.Bool.{Bool, true, false, cond, false≢true}
 use mathlib.Core.Option.{Option, none, some}
 use mathlib.Core.Logic.{_⊎_, inl, inr, _↔_}
 use mathlib.Core.List.{List, [], _∷_, _++_}
@@ -215,6 +215,25 @@ module _ {Page Record Mask : Type 0} (S : PageStore Page Record Mask) (L : Lawfu
       both =
           says-by st (length l) (newestFlight S (l ++ m)) (length (l ++ m)) (ForeignLog S (l ++ m)) (foreign-is u m b)
           (rw (newest-append 0 l m, newest-blanks (newestFlight S l) m b) (newest-is u)) (used-is st u (length l) refl) h z
+
+  -- of a log that follows the loose grammar: the halving finds the first blank page, and no page below it is blank
+  pub used-first : (l : List Page) → Loose S l → usedPages S l ≡ firstBlank S l
+  used-first l w = rw (w .split) (used-point (w .follows) (w .rest) (w .blanks) ∙ sym (first-blank (w .follows) (w .rest) (w .blanks)))
+
+  pub used-below : (l : List Page) → Loose S l → (i : ℕ) → i < firstBlank S l → ¬ (pageAt S l i ≡ S .blank)
+  used-below l w i h = rw (w .split, at-left S L (w .used) (w .rest) i within) (used-not-blank S L (w .follows) i within)
+    where
+      within : i < length (w .used)
+      within = rw (w .split, first-blank (w .follows) (w .rest) (w .blanks)) at h
+
+  -- at the first blank page, or past the end, nothing was written
+  pub blank-at-first : (l : List Page) → pageAt S l (firstBlank S l) ≡ S .blank
+  blank-at-first [] = refl
+  blank-at-first (p ∷ l) = go (S .isBlank p) refl (blank-at-first l)
+    where
+      go : (z : Bool) → S .isBlank p ≡ z → pageAt S l (firstBlank S l) ≡ S .blank → pageAt S (p ∷ l) (cond z 0 (suc (firstBlank S l))) ≡ S .blank
+      go true e h = L .blank-told p .0 e
+      go false e h = h
 
   -- (c) of a log that follows the loose grammar
   pub scan-says : (l : List Page) (w : Loose S l) → newest (w .ending) < S .limit → 0 < length l → ScanSays S l (scan S l)

@@ -29,8 +29,14 @@ module _ {Page Record Mask : Type 0} (S : PageStore Page Record Mask) where
     pub added : (more : List (ℕ × Record)) × (recordsOn S after ≡ recordsOn S before ++ more)
 
   -- (c) "exactly if page 0 or the last two used pages are torn"
+  abbrev pub FirstTorn : List Page → Type 0
+  FirstTorn log = Torn S (pageAt S log 0)
+
+  abbrev pub LastTwoTorn : List Page → Type 0
+  LastTwoTorn log = (i : ℕ) × (firstBlank S log ≡ suc (suc i)) × Torn S (pageAt S log i) × Torn S (pageAt S log (suc i))
+
   abbrev pub ForeignLog : List Page → Type 0
-  ForeignLog log = Torn S (pageAt S log 0) ⊎ ((i : ℕ) × (firstBlank S log ≡ suc (suc i)) × Torn S (pageAt S log i) × Torn S (pageAt S log (suc i)))
+  ForeignLog log = FirstTorn log ⊎ LastTwoTorn log
 
   -- "The next scan says foreign .. exactly if page 0 or the last two used pages are torn. Otherwise it gives the first blank page (the page
   -- count if none) and one more than the last whole page's flight (1 if none)", and writable says whether a blank page remains.

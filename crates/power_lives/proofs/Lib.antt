@@ -1,5 +1,6 @@
 pub mod Lives
 pub mod Theorem
+pub mod Explained
 pub mod Ghost
 pub mod Scripts
 pub mod Every

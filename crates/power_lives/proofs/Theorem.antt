@@ -84,7 +84,7 @@ pub left-is : (c : ℕ) (image script output : List ℕ) → Plays c image scrip
     → afterPlay c image script output ≡ playsImage c (operations script) unpowered image
 left-is c image script output p = ap (leaves image) (on-script c image script output (gives (playsImage c (operations script) unpowered image)) p)
 
-after-long : (c : ℕ) (image script output : List ℕ) → Plays c image script output → length (afterPlay c image script output) ≡ c
+pub after-long : (c : ℕ) (image script output : List ℕ) → Plays c image script output → length (afterPlay c image script output) ≡ c
 after-long c image script output p =
     ap length (left-is c image script output p) ∙ all-only-log c (operations script) unpowered image unpowered-sound .long ∙ p .whole
 
@@ -101,7 +101,7 @@ some-pages c v = let h = valid c v in omega (arith, h .above, h .sectors)
 pub few-pages : (c : ℕ) → validCapacity c ≡ true → pagesIn c + 2 ≤ 2 ^ 32 - 1
 few-pages c v = let h = valid c v in omega (arith, h .most)
 
-first-within : (log : List (List ℕ)) → firstBlank real log ≤ length log
+pub first-within : (log : List (List ℕ)) → firstBlank real log ≤ length log
 first-within [] = omega arith
 first-within (page ∷ log) = go (real .isBlank page) (first-within log)
   where

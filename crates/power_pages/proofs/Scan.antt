@@ -134,7 +134,7 @@ module _ (image faults : List ℕ) (clear : NoFaults faults) where
         blank-is image faults clear i
         ∙ ap {B = Answer Bool} gives (told-blank (pageIn image i) (page-long i h) ∙ ap (isBlankPage) (sym (page-at image n i h)))
 
-    used-is : Scan.usedPages n image faults ≡ gives (Theory-scan.usedPages real (pagesOf n image))
+    pub used-is : Scan.usedPages n image faults ≡ gives (Theory-scan.usedPages real (pagesOf n image))
     unfolding Scan.usedPages
     used-is =
         halving-plain n (blankAt image faults) (λ i. isBlankPage (Theory.pageAt real (pagesOf n image) i)) says-blank

@@ -20,6 +20,8 @@ use Rattle.crc32.specs.Crc.{crc32Of}
 use Rattle.blackbox.specs.Record.{recordOf, recordDecoded}
 use Rattle.blackbox.specs.Page.{magic, metadata, decoded, decodedAs, encoded, recordFromPage}
 use Rattle.records.specs.Pages.{readingAt, readPage, blankAt, ownAt, orElse, pageFlight, flightOfPage}
+use Rattle.records.specs.Explain.{explained}
+use Rattle.records.proofs.Reasons.{reason-of-scan}
 use Rattle.records.specs.Scan.{usedPages, ifBegun, verdict, scanPages, scanned}
 use Rattle.records.specs.declared.PageFlight.{PageFlight}
 use Rattle.records.specs.declared.Scan.{Scan}
@@ -294,6 +296,10 @@ module _ (c : ℕ) (image faults : List ℕ) where
   pub scan : Proper (scanned c image faults)
   unfolding scanned
   scan = on-lengths Anything c (length image) (length faults) (c / 256) _ (scanning image faults (pagesIn c))
+
+  -- it is refused where the scan is, by the same number
+  pub explain : Proper (explained c image faults)
+  explain = record { given = λ r e. tt; refused = λ number fault e. scan .refused number fault (reason-of-scan c image faults .refused number fault .0 e) }
 
   pub page-flight : (i : ℕ) → Proper (flightOfPage c image faults i)
   unfolding flightOfPage

@@ -124,6 +124,7 @@ every-answer =
       programs = Each.programming;
       erases = Each.erasing-sector;
       scan-log = Each.scan;
+      explains = Each.explain;
       page-flight = Each.page-flight;
       find-flight = Each.find;
       older-flight = Each.walk-down;

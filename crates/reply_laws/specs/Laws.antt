@@ -11,6 +11,7 @@ use Rattle.layout.specs.Layout.{layoutOf, logPageAddress, logSectorCount, syncL
 use Rattle.store.specs.Store.{readTold, programTold, eraseTold}
 use Rattle.records.specs.Pages.{flightOfPage}
 use Rattle.records.specs.Scan.{scanned}
+use Rattle.records.specs.Explain.{explained}
 use Rattle.sync_ledger.specs.Ledger.{readHeader, bitLocation, isSynced, nextMarkStep, stepTold}
 use Rattle.sync_ledger.specs.declared.MarkStep.{MarkStep}
 use Rattle.log_search.specs.Search.{foundFlight, olderFlight}
@@ -62,6 +63,7 @@ pub record EveryAnswer : Type 0 where
       → Proper (programTold capacity image address target keep reply)
   pub erases : (capacity : ℕ) (image : List ℕ) (address reply : ℕ) → Proper (eraseTold capacity image address reply)
   pub scan-log : (capacity : ℕ) (image faults : List ℕ) → Proper (scanned capacity image faults)
+  pub explains : (capacity : ℕ) (image faults : List ℕ) → Proper (explained capacity image faults)
   pub page-flight : (capacity : ℕ) (image faults : List ℕ) (i : ℕ) → Proper (flightOfPage capacity image faults i)
   pub find-flight : (capacity : ℕ) (image faults : List ℕ) (used f : ℕ) → Proper (foundFlight capacity image faults used f)
   pub older-flight : (capacity : ℕ) (image faults : List ℕ) (end : ℕ) → Proper (olderFlight capacity image faults end)

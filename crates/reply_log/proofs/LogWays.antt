@@ -11,8 +11,14 @@ use Rattle.laws.specs.declared.Refusal.{Refusal}
 use Rattle.words.specs.Words.{leBytes}
 use Rattle.records.specs.Pages.{toldFlight}
 use Rattle.records.specs.Scan.{toldScan}
+use Rattle.records.specs.Explain.{toldExplained}
 use Rattle.records.specs.declared.Scan.{Scan}
 use Rattle.records.specs.declared.PageFlight.{PageFlight}
+use Rattle.records.specs.declared.TornPages.{TornPages}
+use Rattle.records.specs.declared.Reason.{Reason}
+use Rattle.records.specs.declared.Reason.the-variants as Why
+use Rattle.records.specs.declared.ExplainAnswer.{ExplainAnswer}
+use Rattle.records.specs.declared.ExplainAnswer.the-variants as ExplainAnswers
 use Rattle.sync_ledger.specs.Ledger.{toldHeader, toldBit, toldStep}
 use Rattle.sync_ledger.specs.declared.LedgerHeader.{LedgerHeader}
 use Rattle.sync_ledger.specs.declared.LedgerHeader.the-variants as Header
@@ -37,13 +43,19 @@ use Rattle.sync_ledger.specs.declared.BitAnswer.the-variants as BitAnswers
 use Rattle.sync_ledger.specs.declared.StepAnswer.{StepAnswer}
 use Rattle.sync_ledger.specs.declared.StepAnswer.the-variants as StepAnswers
 use Rattle.reply.specs.Reply.{isSet}
-use Rattle.reply_log.specs.LogRows.{scanRow, flightRow, storedRow, foundRow, headerRow, bitRow, stepNumbers, stepRow, stepOf, recordingIf, recordingOf}
+use Rattle.reply_log.specs.LogRows.{scanRow, reasonNumbers, reasonRow, flightRow, storedRow, foundRow, headerRow, bitRow, stepNumbers, stepRow, stepOf, recordingIf, recordingOf}
 
 pub scan-refused : (a : ScanAnswer) (x : Refusal) → a ≡ ScanAnswers.Refused x → toldScan a ≡ refuses (x .number) (x .fault)
 scan-refused a x w = ap toldScan w
 
 pub scan-given : (a : ScanAnswer) (s : Scan) → a ≡ ScanAnswers.Scanned s → toldScan a ≡ gives s
 scan-given a s w = ap toldScan w
+
+pub explain-refused : (a : ExplainAnswer) (x : Refusal) → a ≡ ExplainAnswers.Refused x → toldExplained a ≡ refuses (x .number) (x .fault)
+explain-refused a x w = ap toldExplained w
+
+pub explain-given : (a : ExplainAnswer) (r : Reason) → a ≡ ExplainAnswers.Explained r → toldExplained a ≡ gives r
+explain-given a r w = ap toldExplained w
 
 pub flight-refused : (a : FlightAnswer) (x : Refusal) → a ≡ FlightAnswers.Refused x → toldFlight a ≡ refuses (x .number) (x .fault)
 flight-refused a x w = ap toldFlight w
@@ -96,6 +108,13 @@ pub scan-long : (s : Scan) → length (scanRow s) ≡ 9
 unfolding scanRow leBytes
 scan-long s = refl
 
+pub reason-long : (r : Reason) → length (reasonRow r) ≡ 11
+unfolding reasonNumbers leBytes
+reason-long Why.Nothing = refl
+reason-long (Why.FirstTorn number) = refl
+reason-long (Why.LastTorn t) = refl
+reason-long Why.Full = refl
+
 pub flight-long : (o : Option PageFlight) → length (flightRow o) ≡ 5
 unfolding leBytes
 flight-long none = refl
@@ -121,6 +140,21 @@ step-long (Mark.EraseLedger address) = refl
 step-long (Mark.ProgramHeader address) = refl
 step-long (Mark.ProgramBit address value) = refl
 step-long Mark.Done = refl
+
+-- ---- a reason's row
+
+module _ (r : Reason) (row : List ℕ) where
+  pub row-nothing : r ≡ Why.Nothing → row ≡ reasonNumbers 0 0 0 0 0 → row ≡ reasonRow r
+  row-nothing w h = h ∙ sym (ap reasonRow w)
+
+  pub row-first : (number : ℕ) → r ≡ Why.FirstTorn number → row ≡ reasonNumbers 1 number 0 0 0 → row ≡ reasonRow r
+  row-first number w h = h ∙ sym (ap reasonRow w)
+
+  pub row-last : (t : TornPages) → r ≡ Why.LastTorn t → row ≡ reasonNumbers 2 (t .earlier) (t .later) (t .«earlier_page») (t .«later_page») → row ≡ reasonRow r
+  row-last t w h = h ∙ sym (ap reasonRow w)
+
+  pub row-full : r ≡ Why.Full → row ≡ reasonNumbers 3 0 0 0 0 → row ≡ reasonRow r
+  row-full w h = h ∙ sym (ap reasonRow w)
 
 -- ---- a step's row
 

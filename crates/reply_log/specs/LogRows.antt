@@ -8,6 +8,8 @@ use lib.Dec.{eqb}
 use Rattle.words.specs.Words.{leBytes}
 use Rattle.records.specs.declared.Scan.{Scan}
 use Rattle.records.specs.declared.PageFlight.{PageFlight}
+use Rattle.records.specs.declared.Reason.{Reason}
+use Rattle.records.specs.declared.Reason.the-variants as Why
 use Rattle.sync_ledger.specs.declared.LedgerHeader.{LedgerHeader}
 use Rattle.sync_ledger.specs.declared.LedgerHeader.the-variants as Header
 use Rattle.sync_ledger.specs.declared.BitLocation.{BitLocation}
@@ -23,6 +25,17 @@ use Rattle.reply.specs.Reply.{isSet, flagOf, someRow}
 -- next page, next flight, writable
 unfoldable pub scanRow : Scan → List ℕ
 scanRow s = leBytes 4 (s .«next_page») ++ (leBytes 4 (s .«next_flight») ++ (flagOf (s .writable) ∷ []))
+
+-- why the scan answers as it does, the two decode refusals and the two pages, each 0 where there is none: 0 nothing wrong, 1 page 0 doesn't
+-- decode, 2 the last two used pages don't, 3 no blank page
+unfoldable pub reasonNumbers : ℕ → ℕ → ℕ → ℕ → ℕ → List ℕ
+reasonNumbers reason earlier later i j = reason ∷ earlier ∷ later ∷ (leBytes 4 i ++ leBytes 4 j)
+
+abbrev pub reasonRow : Reason → List ℕ
+reasonRow Why.Nothing = reasonNumbers 0 0 0 0 0
+reasonRow (Why.FirstTorn number) = reasonNumbers 1 number 0 0 0
+reasonRow (Why.LastTorn t) = reasonNumbers 2 (t .earlier) (t .later) (t .«earlier_page») (t .«later_page»)
+reasonRow Why.Full = reasonNumbers 3 0 0 0 0
 
 -- a page's flight, an Option
 abbrev pub flightRow : Option PageFlight → List ℕ

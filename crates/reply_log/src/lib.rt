@@ -4,7 +4,9 @@ use laws::YesNoAnswer;
 use log_search::FindAnswer;
 use log_search::StoredFlight;
 use log_sync::Recording;
+use records::ExplainAnswer;
 use records::FlightAnswer;
+use records::Reason;
 use records::Scan;
 use records::ScanAnswer;
 use sync_ledger::BitAnswer;
@@ -18,10 +20,11 @@ ghost use mathlib.Core.List.{_∷_};
 ghost use Rattle.laws.specs.Answers.{gives, toldYesNo};
 ghost use Rattle.records.specs.Pages.{toldFlight};
 ghost use Rattle.records.specs.Scan.{toldScan};
+ghost use Rattle.records.specs.Explain.{toldExplained};
 ghost use Rattle.sync_ledger.specs.Ledger.{toldHeader, toldBit, toldStep};
 ghost use Rattle.log_search.specs.Search.{toldFind};
 ghost use Rattle.reply.specs.Reply.{rowReply, rowAfter, laid};
-ghost use Rattle.reply_log.specs.LogRows.{scanRow, flightRow, storedRow, foundRow, flagRow, headerRow, bitRow, stepNumbers, stepRow};
+ghost use Rattle.reply_log.specs.LogRows.{scanRow, reasonNumbers, reasonRow, flightRow, storedRow, foundRow, flagRow, headerRow, bitRow, stepNumbers, stepRow};
 ghost use Rattle.reply_log.specs.LogRows.{stepOf, recordingOf};
 
 fn scan_row(s: Scan) -> [u8; 9]
@@ -42,6 +45,48 @@ pub fn lay_scan(a: ScanAnswer, answer: &mut [u8]) -> u32
         ScanAnswer::Refused(refusal) => reply::refuse(refusal, answer.len(), 9),
         ScanAnswer::Scanned(s) => {
             let row = scan_row(s);
+            reply::give(answer, &row)
+        }
+    }
+}
+
+fn reason_numbers(
+    reason: u8,
+    earlier: u8,
+    later: u8,
+    earlier_page: u32,
+    later_page: u32,
+) -> [u8; 11]
+    ensures { λ r. ⌜ r ≡ reasonNumbers reason earlier later «earlier_page» «later_page» ⌝ }
+{
+    let mut bytes = [reason, earlier, later, 0, 0, 0, 0, 0, 0, 0, 0];
+    let row: &mut [u8] = &mut bytes;
+    words::put_u32(row, 3, earlier_page);
+    words::put_u32(row, 7, later_page);
+    bytes
+}
+
+fn reason_row(r: Reason) -> [u8; 11]
+    ensures { λ row. ⌜ row ≡ reasonRow r ⌝ }
+{
+    match r {
+        Reason::Nothing => reason_numbers(0, 0, 0, 0, 0),
+        Reason::FirstTorn(number) => reason_numbers(1, number, 0, 0, 0),
+        Reason::LastTorn(t) => {
+            reason_numbers(2, t.earlier, t.later, t.earlier_page, t.later_page)
+        }
+        Reason::Full => reason_numbers(3, 0, 0, 0, 0),
+    }
+}
+
+pub fn lay_explained(a: ExplainAnswer, answer: &mut [u8]) -> u32
+    ensures { λ r. ⌜ r ≡ rowReply 11 (now (answer .entry)) (laid reasonRow (toldExplained a)) ⌝ }
+    ensures { λ _. ⌜ now (answer .exit) ≡ rowAfter 11 (now (answer .entry)) (laid reasonRow (toldExplained a)) ⌝ }
+{
+    match a {
+        ExplainAnswer::Refused(refusal) => reply::refuse(refusal, answer.len(), 11),
+        ExplainAnswer::Explained(reason) => {
+            let row = reason_row(reason);
             reply::give(answer, &row)
         }
     }

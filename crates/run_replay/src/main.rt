@@ -292,6 +292,12 @@ fn searches(line: &[u8], c: u32, image: &[u8], faults: &[u8]) -> bool {
         say(reply, &row);
         return true;
     }
+    if is_word(line, b"explain") {
+        let mut row = [0u8; 11];
+        let reply = log::stipeflute_explain(c, image, faults, &mut row);
+        say(reply, &row);
+        return true;
+    }
     if is_word(line, b"flight") {
         let mut row = [0u8; 5];
         let reply = log::stipeflute_page_flight_id(c, image, faults, n, &mut row);

@@ -2,9 +2,10 @@
 ghost use mathlib.Core.Path.{_≡_};
 ghost use Rattle.records.specs.Pages.{flightOfPage};
 ghost use Rattle.records.specs.Scan.{scanned};
+ghost use Rattle.records.specs.Explain.{explained};
 ghost use Rattle.log_search.specs.Search.{foundFlight, olderFlight};
 ghost use Rattle.reply.specs.Reply.{rowReply, rowAfter, laid};
-ghost use Rattle.reply_log.specs.LogRows.{scanRow, flightRow, foundRow};
+ghost use Rattle.reply_log.specs.LogRows.{scanRow, reasonRow, flightRow, foundRow};
 
 #[no_mangle]
 pub extern "C" fn stipeflute_scan_log(
@@ -17,6 +18,19 @@ pub extern "C" fn stipeflute_scan_log(
     ensures { λ _. ⌜ now (answer .exit) ≡ rowAfter 9 (now (answer .entry)) (laid scanRow (scanned «capacity_bytes» (now (image .entry)) (now (faults .entry)))) ⌝ }
 {
     reply_log::lay_scan(records::scan_log(capacity_bytes, image, faults), answer)
+}
+
+#[no_mangle]
+pub extern "C" fn stipeflute_explain(
+    capacity_bytes: u32,
+    image: &[u8],
+    faults: &[u8],
+    answer: &mut [u8],
+) -> u32
+    ensures { λ r. ⌜ r ≡ rowReply 11 (now (answer .entry)) (laid reasonRow (explained «capacity_bytes» (now (image .entry)) (now (faults .entry)))) ⌝ }
+    ensures { λ _. ⌜ now (answer .exit) ≡ rowAfter 11 (now (answer .entry)) (laid reasonRow (explained «capacity_bytes» (now (image .entry)) (now (faults .entry)))) ⌝ }
+{
+    reply_log::lay_explained(records::explain(capacity_bytes, image, faults), answer)
 }
 
 #[no_mangle]

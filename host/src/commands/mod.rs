@@ -1,6 +1,7 @@
 //! The commands, a module each. A new one is a module, a line of `ALL` and a file in help/, by which the script knows its name.
 
 mod draw;
+mod explain;
 mod pages;
 mod records;
 mod show;
@@ -19,6 +20,6 @@ pub struct Command {
     pub run: fn(&Request, &mut Out) -> Result<(), Stop>,
 }
 
-pub const ALL: [Command; 4] = [show::COMMAND, pages::COMMAND, records::COMMAND, draw::COMMAND];
+pub const ALL: [Command; 5] = [show::COMMAND, explain::COMMAND, pages::COMMAND, records::COMMAND, draw::COMMAND];
 
 pub const HELP: &str = include_str!("../help.txt");

@@ -5,6 +5,7 @@ use std::io;
 use stipeflute::LedgerHeader;
 
 use super::Command;
+use super::explain::why;
 use crate::dump::Dump;
 use crate::flights::{self, Flight, acknowledged};
 use crate::json::{Head, Table};
@@ -85,11 +86,10 @@ pub fn scan_lines(log: &Log) -> Vec<String> {
     let answer = format!("next page {}, next flight {}, {writable}", scan.next_page, scan.next_flight);
     let meaning = match scan.next_page.checked_sub(1) {
         None if log.foreign() => {
-            return vec![
-                answer + ": the log is foreign",
-                "Either page 0 does not decode, or neither of the last two used pages does.".to_string(),
-                "No flight is listed of a foreign log; `pages` lists every page.".to_string(),
-            ];
+            let mut lines = vec![answer + ": the log is foreign"];
+            lines.extend(why(log.reason));
+            lines.push("No flight is listed of a foreign log; `pages` lists every page, and `explain` says what to do.".to_string());
+            return lines;
         }
         None => "No page is used.".to_string(),
         Some(last) if scan.writable => format!("Used: {}. Page {} is blank.", used(last), scan.next_page),
