@@ -237,7 +237,7 @@ uint32_t stipeflute_ack_response(uint8_t number, uint8_t *answer, size_t answer_
  * answer, 261: flag 0: what push and stop say of a ready page, whether take_ready_page gives one, whether there is an unfinished flight,
  * whether a flight is recorded; the unfinished flight (u32) 1; the page that is taken 5; zeros where a call gives none of these, and for
  * a script of no rows. Refused: 17 (also where the script is no multiple of 54 bytes), then what the last call is refused: 9, 10, 11.
- * Stack: 7 KB. */
+ * Stack: 8 KB. */
 uint32_t stipeflute_assemble(const uint8_t *script, size_t script_len, uint8_t *answer, size_t answer_len);
 
 /* ---- writer */

@@ -14,8 +14,9 @@ why       The last two used pages, 2 and 3, do not decode.
           Page 2 is refused 2 InvalidMagic: bytes 240, 241 are not \"FB\".
           Page 3 is refused 2 InvalidMagic: bytes 240, 241 are not \"FB\".
 means     The scan says foreign: a board that powers on with this log writes nothing to it,
-          and no flight is listed. Whole pages still hold their records. Where the proved writer
-          alone wrote the log, a used page that does not decode is one whose program did not finish.
+          and no flight is listed. Whole pages still hold their records. Where only the proved
+          writer wrote the log since an erase, a used page that does not decode is what a program
+          left that was cut or that failed (docs/WHAT-THE-LOG-CAN-LOSE.md).
 do        1. Read out the whole flash, and keep the dump.
           2. Salvage: `./stipeflute pages` lists every page of the dump, with its flight and its records.
           3. Only then may the log be erased: an erase takes the whole pages with it.

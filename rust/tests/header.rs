@@ -45,6 +45,6 @@ fn in_rust(parameter: &str) -> (String, String) {
 fn declarations_agree() {
     let header = declared(&text("../include/stipeflute.h"), "\nuint32_t ", in_header);
     let rust = declared(&text("src/ffi.rs"), "\n    pub fn ", in_rust);
-    assert_eq!(header.len(), 31);
+    assert_eq!(header.len(), 32);
     assert_eq!(header, rust);
 }

@@ -3,7 +3,7 @@
 --     unless               an early return
 --     held                 an array of eight entries in a local, with what it owns
 --     gathered             entries side by side are such an array
--- Assumes `Given`, the kit's rules.
+-- Assumes nothing; the kit's rules are a parameter, `Given`.
 use mathlib.Core.Path.{_≡_}
 use Prim.Native.Nat.{ℕ}
 use mathlib.Core.List.{List, [], _∷_, _++_}

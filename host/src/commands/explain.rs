@@ -48,8 +48,9 @@ fn means(log: &Log) -> Vec<String> {
     let lines: &[&str] = match log.reason {
         Reason::FirstTorn(_) | Reason::LastTorn { .. } => &[
             "The scan says foreign: a board that powers on with this log writes nothing to it,",
-            "and no flight is listed. Whole pages still hold their records. Where the proved writer",
-            "alone wrote the log, a used page that does not decode is one whose program did not finish.",
+            "and no flight is listed. Whole pages still hold their records. Where only the proved",
+            "writer wrote the log since an erase, a used page that does not decode is what a program",
+            "left that was cut or that failed (docs/WHAT-THE-LOG-CAN-LOSE.md).",
         ],
         Reason::Full => &[
             "The scan says not writable: a board that powers on with this log writes nothing to it.",
