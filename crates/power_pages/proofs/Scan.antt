@@ -9,8 +9,7 @@ use native.Mathlib.Nat.{add-zero, add-suc, suc-add}
 use native.Mathlib.Omega.{arith}
 use borrow.Author.Tests.{ne-eqb}
 use lib.Dec.{eqb, ltb}
-use lib.ListN.{length, getD, drop, replicate, length-drop}
-use lib.Seq.{length-take-le}
+use lib.ListN.{length, getD, replicate}
 use Rattle.laws.specs.Answers.{Answer, gives, refuses}
 use Rattle.laws.specs.Halving.{bisecting}
 use Rattle.laws.proofs.Halving.{halving-plain, bisecting-within}
@@ -25,6 +24,7 @@ use Rattle.blackbox.specs.Page.{blankPage, decoded}
 use Rattle.blackbox.specs.declared.PageMetadata.{PageMetadata}
 use Rattle.records.specs.Pages.{pageIn, allBlank, sayingOf, reading, blankAt, flightIn, orElse, pageFlight}
 use Rattle.records.specs.Scan as Scan
+use Rattle.records.proofs.Pages.{page-long}
 use Rattle.records.proofs.Readings.{NoFaults, blank-bytes, flight-said, blank-is, own-is}
 use Rattle.records.specs.declared.PageFlight.{PageFlight}
 use Rattle.records.specs.declared.Scan as Declared
@@ -126,13 +126,10 @@ module _ (image faults : List ℕ) (clear : NoFaults faults) where
       rw (own-is image faults clear (suc i), ne-eqb (suc i) 0 (λ e. omega arith), z, own-is image faults clear i) (next-is (ownIn image (suc i)) (ownIn image i))
 
   module _ (n : ℕ) (long : pageAt n ≤ length image) where
-    page-long : (i : ℕ) → i < n → length (pageIn image i) ≡ 256
-    page-long i h = length-take-le 256 (drop (pageAt i) image) (omega (arith, length-drop (pageAt i) image))
-
     says-blank : (i : ℕ) → i < n → blankAt image faults i ≡ gives (isBlankPage (Theory.pageAt real (pagesOf n image) i))
     says-blank i h =
         blank-is image faults clear i
-        ∙ ap {B = Answer Bool} gives (told-blank (pageIn image i) (page-long i h) ∙ ap (isBlankPage) (sym (page-at image n i h)))
+        ∙ ap {B = Answer Bool} gives (told-blank (pageIn image i) (page-long image n long i h) ∙ ap (isBlankPage) (sym (page-at image n i h)))
 
     pub used-is : Scan.usedPages n image faults ≡ gives (Theory-scan.usedPages real (pagesOf n image))
     unfolding Scan.usedPages
