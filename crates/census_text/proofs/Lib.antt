@@ -1,5 +1,6 @@
 pub mod Texts
 pub mod Pages
+pub mod Records
 pub mod Lines
 pub mod Bounds
 pub mod Whole

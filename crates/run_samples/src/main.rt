@@ -1,7 +1,8 @@
 // Runs the census program's code on the sample images of data/ and on noise of the sizes where document 01 changes its answer.
 // Each sample is built here again by its recipe and compared with its file, byte for byte, before its census is printed; the
 // file stdout beside src/ has what must come out. The noise is written to a file and read back, as a user's image would be.
-// Every sample has 20,480 bytes: all 0xff, but for the pages that its recipe names; a page of a flight has five records.
+// Every sample has 20,480 bytes: all 0xff, but for the pages that its recipe names; a page of a flight has five records where nothing else is
+// said.
 
 // Page `index` as 256 bytes of one value.
 fn put_value(image: &mut [u8], index: u32, value: u8) {
@@ -9,10 +10,10 @@ fn put_value(image: &mut [u8], index: u32, value: u8) {
     words::put_bytes(image, layout::page_address(index), &page);
 }
 
-// Page `sequence` of a flight that begins at page `first`, with five all-zero records.
-fn put_page(image: &mut [u8], first: u32, flight: u32, sequence: u32) {
+// Page `sequence` of a flight that begins at page `first`, with `count` all-zero records.
+fn put_page(image: &mut [u8], first: u32, flight: u32, sequence: u32, count: usize) {
     let none = blackbox::no_record();
-    let encoded = blackbox::encode_page(flight, sequence, [none, none, none, none, none], 5);
+    let encoded = blackbox::encode_page(flight, sequence, [none, none, none, none, none], count);
     let index = std::num::wrapping_add_u32(first, sequence);
     words::put_bytes(image, layout::page_address(index), &encoded.page);
 }
@@ -21,7 +22,7 @@ fn put_page(image: &mut [u8], first: u32, flight: u32, sequence: u32) {
 fn put_flight(image: &mut [u8], first: u32, count: u32, flight: u32) {
     let mut sequence: u32 = 0;
     while sequence < count {
-        put_page(image, first, flight, sequence);
+        put_page(image, first, flight, sequence, 5);
         sequence += 1;
     }
 }
@@ -98,6 +99,25 @@ fn hole() {
     sample(b"hole", &image);
 }
 
+// Flight 1 ends with a page of two records, and the page behind it is torn: all zero. Then page 3 of flight 2.
+fn short() {
+    let mut image = [0xffu8; 20480];
+    put_flight(&mut image, 0, 1, 1);
+    put_page(&mut image, 0, 1, 1, 2);
+    put_value(&mut image, 2, 0);
+    put_flight(&mut image, 3, 1, 2);
+    sample(b"short", &image);
+}
+
+// Pages that decode and have no record: the second of flight 1, and the only one of flight 2.
+fn empty() {
+    let mut image = [0xffu8; 20480];
+    put_flight(&mut image, 0, 1, 1);
+    put_page(&mut image, 0, 1, 1, 0);
+    put_page(&mut image, 2, 2, 0, 0);
+    sample(b"empty", &image);
+}
+
 // The next number of the noise: 75 times the last and 74 more, modulo 65,537.
 fn next_noise(s: u32) -> u32 {
     (s % 65537 * 75 + 74) % 65537
@@ -148,6 +168,8 @@ fn main() {
     foreign();
     falling();
     hole();
+    short();
+    empty();
     noise(0, 0);
     noise(0, 1);
     noise(4, 0);

@@ -10,7 +10,7 @@ use std::process::{Command, Stdio};
 
 use stipeflute::{Flash, FlightRecord, MarkStep, encode_page, next_mark_step, start_mark_step};
 
-pub const SAMPLES: [&str; 6] = ["example", "fresh", "full", "foreign", "falling", "hole"];
+pub const SAMPLES: [&str; 8] = ["example", "fresh", "full", "foreign", "falling", "hole", "short", "empty"];
 
 /// The repository.
 pub fn root() -> PathBuf {
