@@ -3,14 +3,14 @@ ghost use Rattle.std.specs.Prelude.{◌≡◌, ◌≤◌, ◌%◌, length, drop}
 ghost use Rattle.digits.specs.Decimal.{digit, decimal_of, digits_of};
 
 // A number's decimal digits.
-#[derive(Drop)]
+#[derive(Clone, Copy)]
 pub struct Digits {
     pub len: usize,
     pub text: [u8; 10],
 }
 
 // Digits at the end of ten bytes, from `at` on.
-#[derive(Drop)]
+#[derive(Clone, Copy)]
 struct Tail {
     at: usize,
     text: [u8; 10],

@@ -39,20 +39,20 @@ pub const QUEUE_FULL: u8 = 16;
 pub const BAD_LENGTH: u8 = 17;
 
 // Why a call refused: the number and, for 6, the fault byte of the device; 0 for any other number.
-#[derive(Drop)]
+#[derive(Clone, Copy)]
 pub struct Refusal {
     pub number: u8,
     pub fault: u8,
 }
 
 // A count, an address, a page or a flight.
-#[derive(Drop)]
+#[derive(Clone, Copy)]
 pub enum NumberAnswer {
     Number(u32),
     Refused(Refusal),
 }
 
-#[derive(Drop)]
+#[derive(Clone, Copy)]
 pub enum YesNoAnswer {
     Yes,
     No,
@@ -60,7 +60,7 @@ pub enum YesNoAnswer {
 }
 
 // What a call answers that gives no value.
-#[derive(Drop)]
+#[derive(Clone, Copy)]
 pub enum DoneAnswer {
     Done,
     Refused(Refusal),

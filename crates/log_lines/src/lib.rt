@@ -20,14 +20,14 @@ pub const LINE_LEN: usize = 56;
 pub const LINES_LEN: usize = 472;
 
 // One line, with its line end.
-#[derive(Drop)]
+#[derive(Clone, Copy)]
 pub struct Line {
     pub len: usize,
     pub text: [u8; 56],
 }
 
 // Lines one after another; or a refusal's number, 0 where there is none, and no text.
-#[derive(Drop)]
+#[derive(Clone, Copy)]
 pub struct Lines {
     pub refused: u8,
     pub len: usize,

@@ -12,7 +12,7 @@ use assembler::{AssembleAnswer, PageAssembler, ReadyPage, UnfinishedFlight};
 use blackbox::FlightRecord;
 
 // What a call of a script answers, and the assembler as it leaves it.
-#[derive(Drop)]
+#[derive(Clone, Copy)]
 pub struct Played {
     pub refused: u8,
     pub flag: bool,

@@ -28,14 +28,14 @@ use records::ScanAnswer;
 pub const TELL_LEN: usize = 40;
 
 // What is on the bench beside the image.
-#[derive(Drop)]
+#[derive(Clone, Copy)]
 pub struct Bench {
     pub writer: LogWriter,
     pub queue: RecordQueue,
 }
 
 // What a call left there, its outcome and its report.
-#[derive(Drop)]
+#[derive(Clone, Copy)]
 pub struct Played {
     pub bench: Bench,
     pub outcome: u8,

@@ -9,7 +9,7 @@ use log_search::StoredFlight;
 use log_sync::Unsynced;
 
 // A row held by value, and the number of the refusal that it got, 0 for none.
-#[derive(Drop)]
+#[derive(Clone, Copy)]
 pub struct FilledRow {
     pub refused: u8,
     pub row: [StoredFlight; 8],

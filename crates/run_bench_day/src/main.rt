@@ -225,7 +225,7 @@ fn on_flash(image: &[u8], record: u32) -> bool {
 }
 
 // How far the day has come: the last record that was offered, the first that this power-on could log, and the last that it logged.
-#[derive(Drop)]
+#[derive(Clone, Copy)]
 struct Day {
     offered: u8,
     first: u8,

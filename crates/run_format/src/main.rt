@@ -144,7 +144,7 @@ fn say_capacity(capacity: u32) {
 // ---- a record
 
 // The first and the last place at which two strings of bytes differ.
-#[derive(Drop)]
+#[derive(Clone, Copy)]
 struct Places {
     first: usize,
     last: usize,

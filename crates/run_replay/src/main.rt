@@ -617,7 +617,7 @@ fn play(c: u32, image: &mut [u8], script: &[u8], rows: u16) {
 // ---- the list
 
 // What goes on from line to line beside the lent bytes: the capacity and how many rows the script has.
-#[derive(Drop)]
+#[derive(Clone, Copy)]
 struct Desk {
     capacity: u32,
     rows: u16,
