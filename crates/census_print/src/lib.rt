@@ -1,5 +1,7 @@
 // The census of what a descriptor gives, written to standard output: the whole of the program `census`, as a function, so that its
 // samples run through the same code. It reads one byte more than an image may have, so that a longer one is seen to be longer.
+#![tactic(auto)]
+
 ghost use Rattle.census_print.specs.Run.{SomeCensus};
 
 use census_text::CensusText;

@@ -1,6 +1,8 @@
 // CRC-32 of IEEE 802.3 over a lent slice of any length. `crc32` of page.rs goes bit by bit; here eight bytes are one step, through a
 // table of what 64 bit steps make of each hexadecimal digit at each place, and the bytes that are left go bit by bit. Nothing is believed of
 // the table: every entry is computed by the checker and compared.
+#![tactic(auto)]
+
 ghost use Rattle.std.specs.Prelude.{◌≡◌, ◌+◌, ◌*◌, ◌/◌, ◌%◌, ◌^◌, ◌<◌, ◌≤◌, length, drop};
 ghost use Rattle.words.specs.Words.{le_at};
 ghost use Rattle.crc32.specs.Crc.{bit_step, bit_steps, byte_step, remainder, crc32_of};

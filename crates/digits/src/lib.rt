@@ -1,4 +1,6 @@
 // Numbers in decimal notation, as Rust prints them. Behind the digits the array holds 0x00.
+#![tactic(auto)]
+
 ghost use Rattle.std.specs.Prelude.{◌≡◌, ◌≤◌, ◌%◌, length, drop};
 ghost use Rattle.digits.specs.Decimal.{digit, decimal_of, digits_of};
 

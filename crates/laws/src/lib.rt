@@ -1,6 +1,8 @@
 // The refusal numbers of document 01 by name, the refusal that every answer holds, and the answers of more than one crate. A caller can rely on it that
 // no other crate of this project writes one of these numbers as a literal.
 // The laws on lists, numbers and bits that belong to no single crate stand in specs/ and proofs/ beside this file.
+#![tactic(auto)]
+
 ghost use Rattle.std.specs.Prelude.{◌≡◌};
 ghost use Rattle.laws.specs.Answers.{refusal};
 

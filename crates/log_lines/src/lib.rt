@@ -1,6 +1,8 @@
 // The lines that `logs unsynced` answers and the texts that refuse an acknowledgement, after log_sync.rs, byte for byte. A
 // `Line` is one response frame and `Lines` the whole answer at once; behind the text both hold 0x00. Every call takes any
 // numbers.
+#![tactic(auto)]
+
 ghost use Rattle.std.specs.Prelude.{◌≡◌, ◌≤◌, [], length, take};
 ghost use Rattle.laws.specs.Answers.{gives, refuses};
 ghost use Rattle.words.specs.Words.{ascii};

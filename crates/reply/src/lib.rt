@@ -1,5 +1,7 @@
 // How a C call answers: one number that carries the refusal and its fault byte, and a lent row of bytes of one length that holds the
 // value. A caller can rely on it that the row is written whole where nothing is refused, and else left as it was.
+#![tactic(auto)]
+
 ghost use Rattle.std.specs.Prelude.{◌≡◌, ◌+◌, ◌*◌, ◌++◌, length};
 ghost use Rattle.laws.specs.Answers.{gives, refuses, told_done};
 ghost use Rattle.reply.specs.Reply.{is_set, flag_of, reply_of, rowed, row_reply, row_after, number_row, some_row};

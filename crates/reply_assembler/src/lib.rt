@@ -1,5 +1,7 @@
 // The assembler's calls as a C call gives them: a script of rows of 54 bytes, played from a fresh assembler, and what its last call
 // answers. A caller can rely on it that a refused call leaves the assembler as the Rust does, and that the next is played.
+#![tactic(auto)]
+
 ghost use Rattle.std.specs.Prelude.{◌≡◌, ◌+◌, ◌≤◌, ◌∷◌, length, take, drop};
 ghost use Rattle.words.specs.Words.{le_bytes};
 ghost use Rattle.blackbox.specs.Record.{record_of};

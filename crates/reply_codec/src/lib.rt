@@ -1,4 +1,6 @@
 // The answers of layout and codec as C calls give them: a number and a row of bytes, by the rules of `reply`.
+#![tactic(auto)]
+
 ghost use Rattle.std.specs.Prelude.{◌≡◌, ◌+◌, ◌≤◌, length, take, drop};
 ghost use Rattle.laws.specs.Answers.{gives, told_number};
 ghost use Rattle.layout.specs.Layout.{told_address};

@@ -1,5 +1,7 @@
 // The answers of scan, search, ledger and log sync as C calls give them: a number and a row of bytes, by the rules of `reply`; and
 // what the numbers stand for that these calls are handed.
+#![tactic(auto)]
+
 ghost use Rattle.std.specs.Prelude.{◌≡◌, ◌∷◌};
 ghost use Rattle.laws.specs.Answers.{gives, told_yes_no};
 ghost use Rattle.records.specs.Pages.{told_flight};

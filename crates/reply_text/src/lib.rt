@@ -1,4 +1,6 @@
 // The unsynced list, its lines and the ERR texts as C calls give them: a number and a row of bytes, by the rules of `reply`.
+#![tactic(auto)]
+
 ghost use Rattle.std.specs.Prelude.{◌≡◌, ◌+◌, ◌%◌, ◌≤◌, [], ◌∷◌, ◌++◌, map};
 ghost use Rattle.laws.specs.Answers.{gives, refusal};
 ghost use Rattle.words.specs.Words.{le_bytes};

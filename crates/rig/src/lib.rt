@@ -2,6 +2,8 @@
 // outcome, its report and the writer's visible state in 40 bytes. Capacity, image, script and output are tested whole before the first
 // call: a refused script alters nothing.
 // A caller can rely on it that what is done to the image is exactly what the script says, call by call.
+#![tactic(auto)]
+
 ghost use Rattle.std.specs.Prelude.{◌+◌, ◌*◌, ◌^◌, ◌<◌, ◌≡◌, true, ◌++◌, length, get_or};
 ghost use Rattle.words.specs.Words.{le_bytes, u32_at, placed};
 ghost use Rattle.laws.specs.Answers.{told_done};

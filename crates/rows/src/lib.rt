@@ -2,6 +2,8 @@
 // entries beyond the count stay. A row that isn't eight long and a count above eight are refused 17, and then the row stays whole.
 // A caller that holds its row by value calls `filled_row`, and needs no proof by hand. `filled_row` and `fill_row` are proved by a walk of
 // their code, since a slice of structs is lent.
+#![tactic(auto)]
+
 ghost use Rattle.std.specs.Prelude.{◌≡◌, length};
 ghost use Rattle.rows.specs.Row.{row_number, after_fill, filled_row};
 

@@ -1,6 +1,8 @@
 // A bench day on the rig: a flight with a failed program, a brown-out in mid-page, a second one before anything is written, and a flight
 // after it. One script plays it on an erased log of 20,480 bytes; then each call that the writer or the scan answered is printed, the
 // pages that are on flash, and for each power-on the records that were logged and those that are missing. Records are numbered from 1.
+#![tactic(auto)]
+
 use blackbox::PageAnswer;
 use laws::DoneAnswer;
 

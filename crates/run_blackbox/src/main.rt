@@ -1,5 +1,7 @@
 // Runs document 01's vectors of the checksum, records and pages through the proved code and prints what came out; the file
 // stdout beside src/ has what must come out.
+#![tactic(auto)]
+
 use blackbox::{FlightRecord, PageAnswer};
 
 fn say(name: &[u8], n: u64) {

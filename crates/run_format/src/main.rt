@@ -1,5 +1,7 @@
 // Prints what docs/FORMAT.md shows. Every picture and table is asked of the proved code: which bytes a field stands in is found by
 // changing the field, what a byte of a page is for by changing the byte. .ci/names holds the document to the file stdout.
+#![tactic(auto)]
+
 use blackbox::{FlightRecord, PageAnswer};
 use laws::NumberAnswer;
 use layout::StorageLayout;

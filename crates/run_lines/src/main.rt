@@ -1,5 +1,7 @@
 // Prints the answer lines of samples, the texts of the refusals and decimal numbers through the proved code; the file stdout beside
 // src/ has what must come out.
+#![tactic(auto)]
+
 use log_lines::{Line, Lines};
 use log_search::StoredFlight;
 

@@ -1,5 +1,7 @@
 // Scans, searches, lists and acknowledges on small images of 20,480 bytes (16 log pages) that it lays itself, and prints each answer;
 // the file stdout beside src/ has what document 01 says must come out.
+#![tactic(auto)]
+
 use laws::{DoneAnswer, YesNoAnswer};
 use log_search::{FindAnswer, StoredFlight};
 use log_sync::Recording;

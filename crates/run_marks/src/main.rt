@@ -1,6 +1,8 @@
 // Walks the acknowledgement of flight 9 on images of 20,480 bytes whose ledger is Foreign, Blank, Blank over a used
 // bitmap, Valid, and Valid with a device whose first program fails; prints each planned step, what it answers, and what
 // is_synced says then.
+#![tactic(auto)]
+
 use laws::{DoneAnswer, Refusal, YesNoAnswer};
 use libc::STDOUT_FILENO;
 use sync_ledger::{MarkStep, StepAnswer};

@@ -1,6 +1,7 @@
 // Replays the lists of oracle/src/lists.rs from standard input by the calls of the archive and prints an answer to each line that asks; the file
 // stdout has what the Rust answered. A line is a word and decimal numbers; oracle/src/lists.rs says what each means. The writer's lines are rows of a script that
 // the rig plays from the image on which it began.
+#![tactic(auto)]
 
 use stipeflute::{codec, flash, log, sync, text, writer};
 

@@ -1,5 +1,7 @@
 // Fills a row through the proved code with lists of no flight, of three, of eight and of nine, and prints what is left in it; the file
 // stdout beside src/ has what must come out.
+#![tactic(auto)]
+
 use log_search::StoredFlight;
 use log_sync::Unsynced;
 use rows::FilledRow;

@@ -3,6 +3,7 @@
 // file stdout beside src/ has what must come out. The noise is written to a file and read back, as a user's image would be.
 // Every sample has 20,480 bytes: all 0xff, but for the pages that its recipe names; a page of a flight has five records where nothing else is
 // said.
+#![tactic(auto)]
 
 // Page `index` as 256 bytes of one value.
 fn put_value(image: &mut [u8], index: u32, value: u8) {

@@ -2,6 +2,8 @@
 // stands in it, and its spare bytes are 0. is_script tests any bytes; what a row of a script says is read at its offsets, with order_in for
 // a drain's order, and flag_at and next_in for flags and for what the next program does.
 // A caller can rely on it that a script says each of its operations in one way only.
+#![tactic(auto)]
+
 ghost use Rattle.std.specs.Prelude.{◌≡◌, ◌≤◌, ◌<◌, length, get_or, []};
 ghost use Rattle.words.specs.Words.{same_bytes};
 ghost use Rattle.script.specs.Script.{flag_byte, next_byte, row, flag_at, next_in, order_in, is_row, is_script};

@@ -1,6 +1,8 @@
 // A NOR store on a lent image, with one fault byte for each 256 bytes: reads, programs and sector erases.
 // A caller can rely on it that a refused call alters no lent byte, but for what a failing program itself stored, and
 // that programs and erases look at no fault byte.
+#![tactic(auto)]
+
 ghost use Rattle.std.specs.Prelude.{◌≡◌, ◌+◌, ◌≤◌, length, get_or};
 ghost use Rattle.laws.specs.Answers.{gives, told_done};
 ghost use Rattle.store.specs.Store.{on_image, on_store, on_mask, fault_at, in_one_page, is_sector, mask, programmed};

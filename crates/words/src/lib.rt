@@ -1,5 +1,7 @@
 // Bytes and the numbers they write: little-endian, two's complement where signed. Every call takes any slice and any
 // offset: a byte past the end reads as 0, and bytes that do not fit are not written.
+#![tactic(auto)]
+
 ghost use Rattle.std.specs.Prelude.{◌≡◌, ◌%◌, ◌/◌, get_or};
 ghost use Rattle.words.specs.Words.{le_bytes, u16_at, u32_at, signed16, bits16, placed, same_bytes};
 

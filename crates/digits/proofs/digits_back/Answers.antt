@@ -1,0 +1,39 @@
+-- `digits::digits_back` meets its contract. The loop's invariant: what is ahead of the digits laid, and these, are the number's
+-- notation. Assumes nothing.
+use Prim.Native.Nat.{◌≤◌}
+use mathlib.Core.Path.{◌≡◌, refl}
+use mathlib.Core.List.{◌++◌}
+use lib.ListN.{length, drop, length-set}
+use Rattle.digits.specs.Decimal.{decimal_of}
+use Rattle.digits.proofs.Back.{ahead, laid_first, laid_next, laid_all, place_left}
+use borrow.Author.Rules.{rules}
+use native.Mathlib.Omega.{arith}
+use Rattle.digits.proofs.digits_back.Goals as goal
+
+pub loop-rest-init : goal.loop-rest-init
+loop-rest-init c = (omega arith, omega arith, refl, laid_first c.args.n c.last_digit.result c.last_digit.ensures)
+
+pub overflow_sub-at : goal.overflow_sub-at
+overflow_sub-at c =
+    let l = c.loop-rest in
+    place_left _ (omega arith) l.text l.at l.rest l.invariant.2 l.invariant.0 l.invariant.3 (omega arith)
+
+pub bounds-text-at-in-loop-rest : goal.bounds-text-at-in-loop-rest
+bounds-text-at-in-loop-rest c =
+    let l = c.loop-rest in
+    omega (arith, place_left _ (omega arith) l.text l.at l.rest l.invariant.2 l.invariant.0 l.invariant.3 (omega arith))
+
+pub loop-rest-preserved : goal.loop-rest-preserved
+loop-rest-preserved c =
+    let l = c.loop-rest in
+    let d = c.last_digit-in-loop-rest in (
+      omega arith,
+      omega arith,
+      simp length-set (omega arith),
+      laid_next _ (omega arith) l.text l.at l.rest l.invariant.2 l.invariant.0 l.invariant.3 (omega arith) d.result d.ensures,
+    )
+
+pub returns : goal.returns
+returns c =
+    let l = c.loop-rest in
+    (l.invariant.0, l.invariant.2, laid_all _ l.text l.at l.rest (omega arith) l.invariant.3)

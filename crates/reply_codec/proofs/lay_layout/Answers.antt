@@ -1,0 +1,11 @@
+-- `reply_codec::lay_layout` meets its contract. Assumes nothing.
+use Rattle.reply.proofs.Rows.{ends, row_refused, row_given, held_refused, held_given}
+use Rattle.reply_codec.proofs.CodecWays.{layout_long}
+use borrow.Author.Rules.{rules}
+use Rattle.reply_codec.proofs.lay_layout.Goals as goal
+
+pub returns-then-a-ne0 : goal.returns-then-a-ne0
+returns-then-a-ne0 c = ends (search (row_refused, row_given, held_refused, held_given, layout_long, rules))
+
+pub returns : goal.returns
+returns c = ends (search (row_refused, row_given, held_refused, held_given, layout_long, rules))

@@ -1,0 +1,6 @@
+-- `reply_text::stored_at` meets its contract. Assumes nothing.
+use borrow.Author.Rules.{rules}
+use Rattle.reply_text.proofs.stored_at.Goals as goal
+
+pub returns : goal.returns
+returns c = cc

@@ -1,0 +1,6 @@
+-- `rig::reset` meets its contract. Assumes nothing.
+use borrow.Author.Rules.{rules}
+use Rattle.rig.proofs.reset.Goals as goal
+
+pub returns : goal.returns
+returns c = cc

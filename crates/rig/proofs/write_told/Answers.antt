@@ -1,0 +1,6 @@
+-- `rig::write_told` meets its contract. Assumes nothing.
+use borrow.Author.Rules.{rules}
+use Rattle.rig.proofs.write_told.Goals as goal
+
+pub returns : goal.returns
+returns c = cc

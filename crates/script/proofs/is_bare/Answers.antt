@@ -1,0 +1,6 @@
+-- `script::is_bare` meets its contract. Assumes nothing.
+use borrow.Author.Rules.{rules}
+use Rattle.script.proofs.is_bare.Goals as goal
+
+pub returns : goal.returns
+returns c = cc

@@ -1,0 +1,16 @@
+-- `store::program_bytes` meets its contract. The loop's invariant: the first i bytes are programmed. Assumes nothing.
+use Prim.Native.Nat.{◌-◌, ◌≤◌}
+use mathlib.Core.Path.{◌≡◌, refl, ap, ◌∙◌}
+use lib.ListN.{length, length-set}
+use Rattle.store.specs.Store.{mask}
+use Rattle.store.proofs.Bytes.{so_far, none_yet, one_more, programmed_all}
+use borrow.Author.Rules.{rules}
+use native.Mathlib.Omega.{arith}
+use Rattle.store.proofs.program_bytes.Given as goal
+
+abbrev pub invariant-loop-i : goal.invariant-loop-i
+invariant-loop-i l =
+    (l.i ≤ length l.target) × (length l.image ≡ length l.initial.image) × (l.image ≡ so_far l.initial.image l.at l.target (mask l.succeeds l.keep) l.i)
+
+abbrev pub decreases-loop-i : goal.decreases-loop-i
+decreases-loop-i l = length l.target - l.i

@@ -1,0 +1,13 @@
+-- `words::u16_at` meets its contract, byte by byte. Assumes nothing.
+use mathlib.Core.Path.{sym}
+use Rattle.words.proofs.Numbers.{u16_bytes, past_end}
+use native.Mathlib.Omega.{arith}
+use borrow.Author.Rules.{rules}
+use Rattle.words.proofs.u16_at.Goals as goal
+
+pub returns-then-s-at : goal.returns-then-s-at
+returns-then-s-at c = sym (past_end 2 c.args.s.now c.args.at c.if-s-at.true)
+
+pub returns : goal.returns
+returns c =
+    omega (arith, u16_bytes c.args.s.now c.args.at, c.byte_at-a.ensures, c.byte_at-b.ensures)
