@@ -51,7 +51,7 @@ pub fn refuse(refusal: Refusal, given: usize, wanted: usize) -> u32
 // A value's bytes in the answer row; a row of another length is refused 17.
 pub fn give(answer: &mut [u8], bytes: &[u8]) -> u32
     ensures value { result ≡ row_reply (length bytes.now) answer.old (gives bytes.now) }
-    ensures answer_after { answer.new ≡ row_after (length bytes.now) answer.old (gives bytes.now) }
+    ensures lent { answer.new ≡ row_after (length bytes.now) answer.old (gives bytes.now) }
 {
     if answer.len() != bytes.len() {
         return reply_of(laws::refused(laws::BAD_LENGTH));
@@ -63,7 +63,7 @@ pub fn give(answer: &mut [u8], bytes: &[u8]) -> u32
 // A value's bytes in two parts, one behind the other.
 pub fn give_two(answer: &mut [u8], head: &[u8], tail: &[u8]) -> u32
     ensures value { result ≡ row_reply (length head.now + length tail.now) answer.old (gives (head.now ++ tail.now)) }
-    ensures answer_after { answer.new ≡ row_after (length head.now + length tail.now) answer.old (gives (head.now ++ tail.now)) }
+    ensures lent { answer.new ≡ row_after (length head.now + length tail.now) answer.old (gives (head.now ++ tail.now)) }
 {
     if answer.len() < head.len() {
         return reply_of(laws::refused(laws::BAD_LENGTH));
@@ -79,7 +79,7 @@ pub fn give_two(answer: &mut [u8], head: &[u8], tail: &[u8]) -> u32
 // A number in the answer row.
 pub fn give_number(answer: &mut [u8], n: u32) -> u32
     ensures value { result ≡ row_reply 4 answer.old (gives (number_row n)) }
-    ensures answer_after { answer.new ≡ row_after 4 answer.old (gives (number_row n)) }
+    ensures lent { answer.new ≡ row_after 4 answer.old (gives (number_row n)) }
 {
     let row = words::u32_bytes(n);
     give(answer, &row)

@@ -134,7 +134,7 @@ fn played_head(flag: bool, flight: u32) -> [u8; 5]
 
 fn lay_played(p: Played, answer: &mut [u8]) -> u32
     ensures value { result ≡ row_reply 261 answer.old (laid played_row (told_played p)) }
-    ensures answer_after { answer.new ≡ row_after 261 answer.old (laid played_row (told_played p)) }
+    ensures lent { answer.new ≡ row_after 261 answer.old (laid played_row (told_played p)) }
 {
     if p.refused != 0 {
         return reply::refuse(laws::refused(p.refused), answer.len(), 261);
@@ -147,7 +147,7 @@ fn lay_played(p: Played, answer: &mut [u8]) -> u32
 // What the last call of a script answers, in the answer row; a script that is no multiple of 54 bytes is refused 17.
 pub fn lay_script(script: &[u8], answer: &mut [u8]) -> u32
     ensures value { result ≡ row_reply 261 answer.old (laid played_row (last_played script.now)) }
-    ensures answer_after { answer.new ≡ row_after 261 answer.old (laid played_row (last_played script.now)) }
+    ensures lent { answer.new ≡ row_after 261 answer.old (laid played_row (last_played script.now)) }
 {
     if script.len() % 54 != 0 {
         return reply::reply_of(laws::refused(laws::BAD_LENGTH));

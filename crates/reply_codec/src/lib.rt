@@ -15,7 +15,7 @@ use layout::{AddressAnswer, LayoutAnswer, StorageLayout};
 
 pub fn lay_number(a: NumberAnswer, answer: &mut [u8]) -> u32
     ensures value { result ≡ row_reply 4 answer.old (laid number_row (told_number a)) }
-    ensures answer_after { answer.new ≡ row_after 4 answer.old (laid number_row (told_number a)) }
+    ensures lent { answer.new ≡ row_after 4 answer.old (laid number_row (told_number a)) }
 {
     match a {
         NumberAnswer::Refused(refusal) => reply::refuse(refusal, answer.len(), 4),
@@ -25,7 +25,7 @@ pub fn lay_number(a: NumberAnswer, answer: &mut [u8]) -> u32
 
 pub fn lay_address(a: AddressAnswer, answer: &mut [u8]) -> u32
     ensures value { result ≡ row_reply 5 answer.old (laid option_row (told_address a)) }
-    ensures answer_after { answer.new ≡ row_after 5 answer.old (laid option_row (told_address a)) }
+    ensures lent { answer.new ≡ row_after 5 answer.old (laid option_row (told_address a)) }
 {
     match a {
         AddressAnswer::Refused(refusal) => reply::refuse(refusal, answer.len(), 5),
@@ -56,7 +56,7 @@ fn layout_row(l: StorageLayout) -> [u8; 20]
 
 pub fn lay_layout(a: LayoutAnswer, answer: &mut [u8]) -> u32
     ensures value { result ≡ row_reply 20 answer.old (laid layout_row (told_layout a)) }
-    ensures answer_after { answer.new ≡ row_after 20 answer.old (laid layout_row (told_layout a)) }
+    ensures lent { answer.new ≡ row_after 20 answer.old (laid layout_row (told_layout a)) }
 {
     if a.refused != 0 {
         return reply::refuse(laws::refused(a.refused), answer.len(), 20);
@@ -78,7 +78,7 @@ fn metadata_row(m: PageMetadata) -> [u8; 9]
 
 pub fn lay_metadata(a: PageAnswer, answer: &mut [u8]) -> u32
     ensures value { result ≡ row_reply 9 answer.old (laid metadata_row (Page.told a)) }
-    ensures answer_after { answer.new ≡ row_after 9 answer.old (laid metadata_row (Page.told a)) }
+    ensures lent { answer.new ≡ row_after 9 answer.old (laid metadata_row (Page.told a)) }
 {
     match a {
         PageAnswer::Refused(refusal) => reply::refuse(refusal, answer.len(), 9),
@@ -92,7 +92,7 @@ pub fn lay_metadata(a: PageAnswer, answer: &mut [u8]) -> u32
 // A record in the answer row.
 pub fn give_record(record: FlightRecord, answer: &mut [u8]) -> u32
     ensures value { result ≡ row_reply 48 answer.old (gives (record_bytes «record»)) }
-    ensures answer_after { answer.new ≡ row_after 48 answer.old (gives (record_bytes «record»)) }
+    ensures lent { answer.new ≡ row_after 48 answer.old (gives (record_bytes «record»)) }
 {
     let row = record.encode();
     reply::give(answer, &row)
@@ -100,7 +100,7 @@ pub fn give_record(record: FlightRecord, answer: &mut [u8]) -> u32
 
 pub fn lay_record(a: RecordAnswer, answer: &mut [u8]) -> u32
     ensures value { result ≡ row_reply 48 answer.old (laid record_bytes (told_record a)) }
-    ensures answer_after { answer.new ≡ row_after 48 answer.old (laid record_bytes (told_record a)) }
+    ensures lent { answer.new ≡ row_after 48 answer.old (laid record_bytes (told_record a)) }
 {
     if a.refused != 0 {
         return reply::refuse(laws::refused(a.refused), answer.len(), 48);
@@ -111,7 +111,7 @@ pub fn lay_record(a: RecordAnswer, answer: &mut [u8]) -> u32
 
 pub fn lay_page(a: EncodedPage, answer: &mut [u8]) -> u32
     ensures value { result ≡ row_reply 256 answer.old (laid as_is (told_page a)) }
-    ensures answer_after { answer.new ≡ row_after 256 answer.old (laid as_is (told_page a)) }
+    ensures lent { answer.new ≡ row_after 256 answer.old (laid as_is (told_page a)) }
 {
     if a.refused != 0 {
         return reply::refuse(laws::refused(a.refused), answer.len(), 256);

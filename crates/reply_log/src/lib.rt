@@ -31,7 +31,7 @@ fn scan_row(s: Scan) -> [u8; 9]
 
 pub fn lay_scan(a: ScanAnswer, answer: &mut [u8]) -> u32
     ensures value { result ≡ row_reply 9 answer.old (laid scan_row (told_scan a)) }
-    ensures answer_after { answer.new ≡ row_after 9 answer.old (laid scan_row (told_scan a)) }
+    ensures lent { answer.new ≡ row_after 9 answer.old (laid scan_row (told_scan a)) }
 {
     match a {
         ScanAnswer::Refused(refusal) => reply::refuse(refusal, answer.len(), 9),
@@ -73,7 +73,7 @@ fn reason_row(r: Reason) -> [u8; 11]
 
 pub fn lay_explained(a: ExplainAnswer, answer: &mut [u8]) -> u32
     ensures value { result ≡ row_reply 11 answer.old (laid reason_row (told_explained a)) }
-    ensures answer_after { answer.new ≡ row_after 11 answer.old (laid reason_row (told_explained a)) }
+    ensures lent { answer.new ≡ row_after 11 answer.old (laid reason_row (told_explained a)) }
 {
     match a {
         ExplainAnswer::Refused(refusal) => reply::refuse(refusal, answer.len(), 11),
@@ -86,7 +86,7 @@ pub fn lay_explained(a: ExplainAnswer, answer: &mut [u8]) -> u32
 
 pub fn lay_flight(a: FlightAnswer, answer: &mut [u8]) -> u32
     ensures value { result ≡ row_reply 5 answer.old (laid flight_row (told_flight a)) }
-    ensures answer_after { answer.new ≡ row_after 5 answer.old (laid flight_row (told_flight a)) }
+    ensures lent { answer.new ≡ row_after 5 answer.old (laid flight_row (told_flight a)) }
 {
     match a {
         FlightAnswer::Refused(refusal) => reply::refuse(refusal, answer.len(), 5),
@@ -125,7 +125,7 @@ fn found_row(f: StoredFlight) -> [u8; 13]
 
 pub fn lay_find(a: FindAnswer, answer: &mut [u8]) -> u32
     ensures value { result ≡ row_reply 13 answer.old (laid found_row (told_find a)) }
-    ensures answer_after { answer.new ≡ row_after 13 answer.old (laid found_row (told_find a)) }
+    ensures lent { answer.new ≡ row_after 13 answer.old (laid found_row (told_find a)) }
 {
     match a {
         FindAnswer::Refused(refusal) => reply::refuse(refusal, answer.len(), 13),
@@ -143,7 +143,7 @@ pub fn lay_find(a: FindAnswer, answer: &mut [u8]) -> u32
 // A flag in the answer row.
 fn give_flag(b: bool, answer: &mut [u8]) -> u32
     ensures value { result ≡ row_reply 1 answer.old (gives (flag_row b)) }
-    ensures answer_after { answer.new ≡ row_after 1 answer.old (gives (flag_row b)) }
+    ensures lent { answer.new ≡ row_after 1 answer.old (gives (flag_row b)) }
 {
     let row = [reply::flag_of(b)];
     reply::give(answer, &row)
@@ -151,7 +151,7 @@ fn give_flag(b: bool, answer: &mut [u8]) -> u32
 
 pub fn lay_yes_no(a: YesNoAnswer, answer: &mut [u8]) -> u32
     ensures value { result ≡ row_reply 1 answer.old (laid flag_row (told_yes_no a)) }
-    ensures answer_after { answer.new ≡ row_after 1 answer.old (laid flag_row (told_yes_no a)) }
+    ensures lent { answer.new ≡ row_after 1 answer.old (laid flag_row (told_yes_no a)) }
 {
     match a {
         YesNoAnswer::Refused(refusal) => reply::refuse(refusal, answer.len(), 1),
@@ -172,7 +172,7 @@ fn header_row(h: LedgerHeader) -> [u8; 1]
 
 pub fn lay_header(a: HeaderAnswer, answer: &mut [u8]) -> u32
     ensures value { result ≡ row_reply 1 answer.old (laid header_row (told_header a)) }
-    ensures answer_after { answer.new ≡ row_after 1 answer.old (laid header_row (told_header a)) }
+    ensures lent { answer.new ≡ row_after 1 answer.old (laid header_row (told_header a)) }
 {
     match a {
         HeaderAnswer::Refused(refusal) => reply::refuse(refusal, answer.len(), 1),
@@ -193,7 +193,7 @@ fn bit_row(b: BitLocation) -> [u8; 5]
 
 pub fn lay_bit(a: BitAnswer, answer: &mut [u8]) -> u32
     ensures value { result ≡ row_reply 5 answer.old (laid bit_row (told_bit a)) }
-    ensures answer_after { answer.new ≡ row_after 5 answer.old (laid bit_row (told_bit a)) }
+    ensures lent { answer.new ≡ row_after 5 answer.old (laid bit_row (told_bit a)) }
 {
     match a {
         BitAnswer::Refused(refusal) => reply::refuse(refusal, answer.len(), 5),
@@ -225,7 +225,7 @@ fn step_row(s: MarkStep) -> [u8; 6]
 
 pub fn lay_step(a: StepAnswer, answer: &mut [u8]) -> u32
     ensures value { result ≡ row_reply 6 answer.old (laid step_row (told_step a)) }
-    ensures answer_after { answer.new ≡ row_after 6 answer.old (laid step_row (told_step a)) }
+    ensures lent { answer.new ≡ row_after 6 answer.old (laid step_row (told_step a)) }
 {
     match a {
         StepAnswer::Refused(refusal) => reply::refuse(refusal, answer.len(), 6),

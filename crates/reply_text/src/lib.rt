@@ -59,7 +59,7 @@ fn list_refusal(number: u8, fault: u8) -> laws::Refusal
 
 pub fn lay_list(u: Unsynced, answer: &mut [u8]) -> u32
     ensures value { result ≡ row_reply 98 answer.old (laid list_row (told_list u)) }
-    ensures answer_after { answer.new ≡ row_after 98 answer.old (laid list_row (told_list u)) }
+    ensures lent { answer.new ≡ row_after 98 answer.old (laid list_row (told_list u)) }
 {
     if u.refused != 0 {
         let why = list_refusal(u.refused, u.fault);
@@ -74,7 +74,7 @@ pub fn lay_list(u: Unsynced, answer: &mut [u8]) -> u32
 // The text of one line in the answer row.
 fn give_line(line: Line, answer: &mut [u8]) -> u32
     ensures value { result ≡ row_reply 60 answer.old (gives (le_bytes 4 line.len ++ line.text)) }
-    ensures answer_after { answer.new ≡ row_after 60 answer.old (gives (le_bytes 4 line.len ++ line.text)) }
+    ensures lent { answer.new ≡ row_after 60 answer.old (gives (le_bytes 4 line.len ++ line.text)) }
 {
     let head = length_bytes(line.len);
     let text = line.text;
@@ -84,7 +84,7 @@ fn give_line(line: Line, answer: &mut [u8]) -> u32
 // The text that answers a refused acknowledgement.
 pub fn lay_ack_response(number: u8, answer: &mut [u8]) -> u32
     ensures value { result ≡ row_reply 60 answer.old (gives (text_row 56 (ack_text number))) }
-    ensures answer_after { answer.new ≡ row_after 60 answer.old (gives (text_row 56 (ack_text number))) }
+    ensures lent { answer.new ≡ row_after 60 answer.old (gives (text_row 56 (ack_text number))) }
 {
     let line = log_lines::ack_response(number);
     give_line(line, answer)
@@ -118,7 +118,7 @@ fn flights_in(bytes: &[u8]) -> [StoredFlight; 8]
 // Lines, or their refusal, in the answer row.
 fn lay_lines(lines: Lines, answer: &mut [u8]) -> u32
     ensures value { result ≡ row_reply 476 answer.old (laid lines_row (told_lines lines)) }
-    ensures answer_after { answer.new ≡ row_after 476 answer.old (laid lines_row (told_lines lines)) }
+    ensures lent { answer.new ≡ row_after 476 answer.old (laid lines_row (told_lines lines)) }
 {
     if lines.refused != 0 {
         return reply::refuse(laws::refused(lines.refused), answer.len(), 476);
@@ -131,7 +131,7 @@ fn lay_lines(lines: Lines, answer: &mut [u8]) -> u32
 // The whole answer to `logs unsynced` of eight entries of 12 bytes.
 pub fn lay_unsynced_lines(flights: &[u8], count: u32, more: u8, answer: &mut [u8]) -> u32
     ensures value { result ≡ row_reply 476 answer.old (laid (text_row 472) (lines_of flights.now count more)) }
-    ensures answer_after { answer.new ≡ row_after 476 answer.old (laid (text_row 472) (lines_of flights.now count more)) }
+    ensures lent { answer.new ≡ row_after 476 answer.old (laid (text_row 472) (lines_of flights.now count more)) }
 {
     if flights.len() != 96 {
         return reply::reply_of(laws::refused(laws::BAD_LENGTH));

@@ -163,21 +163,21 @@ module _ (c : ℕ) (image script output : List ℕ) where
           → refuses x.number x.fault ≡ rest
       refused_as A x rest ex er = ap {B = Answer A} (λ (y : Refusal). refuses y.number y.fault) ex ∙ er
 
-      pub no_script : (x : Refusal) → not b ≡ true → x ≡ refusal bad_length 0 → Ended (told_done (Refused x)) image output
+      pub no_script : (x : Refusal) → b ≡ false → x ≡ refusal bad_length 0 → Ended (told_done (Refused x)) image output
       unfolding on_script
       no_script x n ex =
           refused_ends x
           (λ A rest. refused_as A x (tested A rest) ex
-          (sym (on_image_lem c (length image) _ held.0 held.1 ∙ simp (sym eb ∙ not-true b n))))
+          (sym (on_image_lem c (length image) _ held.0 held.1 ∙ simp (sym eb ∙ n))))
 
-      module _ (n : not b ≡ false) where
+      module _ (n : b ≡ true) where
         pub other_output : (x : Refusal) → (length output ≡ rows_in script * 40 → ⊥) → x ≡ refusal bad_length 0
             → Ended (told_done (Refused x)) image output
         unfolding on_script
         other_output x h ex =
             refused_ends x
             (λ A rest. refused_as A x (tested A rest) ex
-            (sym (on_image_lem c (length image) _ held.0 held.1 ∙ simp (sym eb ∙ not-false b n, ne_eqb (length output) (rows_in script * 40) h))))
+            (sym (on_image_lem c (length image) _ held.0 held.1 ∙ simp (sym eb ∙ n, ne_eqb (length output) (rows_in script * 40) h))))
 
         pub plays_it : (image' output' : List ℕ) → length output ≡ rows_in script * 40
             → image' ≡ plays_image c (operations script) unpowered image → output' ≡ tells c (operations script) unpowered image
@@ -191,4 +191,4 @@ module _ (c : ℕ) (image script output : List ℕ) where
             }
           where
             all : (A : Type 0) (rest : Answer A) → tested A rest ≡ rest
-            all A rest = on_image_lem c (length image) _ held.0 held.1 ∙ simp (sym eb ∙ not-false b n, eq-eqb (length output) (rows_in script * 40) h)
+            all A rest = on_image_lem c (length image) _ held.0 held.1 ∙ simp (sym eb ∙ n, eq-eqb (length output) (rows_in script * 40) h)

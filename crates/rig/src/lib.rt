@@ -82,7 +82,7 @@ fn offered_record(row: &[u8]) -> FlightRecord
 fn drain(bench: Bench, capacity_bytes: u32, image: &mut [u8], row: &[u8]) -> Played
     requires { SoundBench bench × (length row.now ≡ 288) × (get_or row.now 2 0 ≡ 1) }
     ensures value { result ≡ played capacity_bytes (operation_in row.now) bench image.old }
-    ensures image_after { image.new ≡ image_after capacity_bytes (operation_in row.now) bench image.old }
+    ensures lent { image.new ≡ image_after capacity_bytes (operation_in row.now) bench image.old }
 {
     let writer = bench.writer;
     let queue = bench.queue;
@@ -125,7 +125,7 @@ fn outcome_byte(outcome: PageWrite) -> u8
 fn write(bench: Bench, capacity_bytes: u32, image: &mut [u8], row: &[u8]) -> Played
     requires { SoundBench bench × (length row.now ≡ 288) × (get_or row.now 2 0 ≡ 2) }
     ensures value { result ≡ played capacity_bytes (operation_in row.now) bench image.old }
-    ensures image_after { image.new ≡ image_after capacity_bytes (operation_in row.now) bench image.old }
+    ensures lent { image.new ≡ image_after capacity_bytes (operation_in row.now) bench image.old }
 {
     let writer = bench.writer;
     let queue = bench.queue;
@@ -221,7 +221,7 @@ fn flush(bench: Bench, row: &[u8]) -> Played
 fn step(bench: Bench, capacity_bytes: u32, image: &mut [u8], row: &[u8]) -> Played
     requires { SoundBench bench × (length row.now ≡ 288) × (get_or row.now 2 0 ≡ 0 → ⊥) }
     ensures value { result ≡ played capacity_bytes (operation_in row.now) bench image.old }
-    ensures image_after { image.new ≡ image_after capacity_bytes (operation_in row.now) bench image.old }
+    ensures lent { image.new ≡ image_after capacity_bytes (operation_in row.now) bench image.old }
 {
     let operation = words::byte_at(row, 2);
     if operation == 1 {

@@ -237,20 +237,20 @@ module _ (script : List ℕ) where
     whole = cond_true (eqb (length script % 288) 0) _ _ (eq-eqb (length script % 288) 0 h)
 
     -- the row that was tested, as a part from its start to its end
-    pub bad_row : (i : ℕ) (r : Bool) → i < rows_in script → r ≡ is_row (take (i * 288 + 288 - i * 288) (drop (i * 288) script)) → not r ≡ true
+    pub bad_row : (i : ℕ) (r : Bool) → i < rows_in script → r ≡ is_row (take (i * 288 + 288 - i * 288) (drop (i * 288) script)) → r ≡ false
         → false ≡ is_script script
     bad_row i r l er n =
         let z : i * 288 + 288 - i * 288 ≡ 288 = omega arith in
-        let none = ap (λ (k : ℕ). is_row (take k (drop (i * 288) script))) (sym z) ∙ sym er ∙ not-true r n in
+        let none = ap (λ (k : ℕ). is_row (take k (drop (i * 288) script))) (sym z) ∙ sym er ∙ n in
         sym (whole ∙ each_false script i (rows_in script) l none)
 
-    pub row_more : (i : ℕ) (r : Bool) → r ≡ is_row (take (i * 288 + 288 - i * 288) (drop (i * 288) script)) → not r ≡ false
+    pub row_more : (i : ℕ) (r : Bool) → r ≡ is_row (take (i * 288 + 288 - i * 288) (drop (i * 288) script)) → r ≡ true
         → each_is_row script i ≡ true → each_is_row script (i + 1) ≡ true
     unfolding each_is_row
     row_more i r er n e =
         let z : i * 288 + 288 - i * 288 ≡ 288 = omega arith in
         ap (each_is_row script) (add-one i) ∙ cond_true (each_is_row script i) (is_row (row_at script i)) false e
-        ∙ ap (λ (k : ℕ). is_row (take k (drop (i * 288) script))) (sym z) ∙ sym er ∙ not-false r n
+        ∙ ap (λ (k : ℕ). is_row (take k (drop (i * 288) script))) (sym z) ∙ sym er ∙ n
 
     pub every_row : (i : ℕ) → i ≤ rows_in script → rows_in script ≤ i → each_is_row script i ≡ true → true ≡ is_script script
     every_row i l m e = let z : rows_in script ≡ i = omega arith in sym (whole ∙ ap (each_is_row script) z ∙ e)

@@ -8,7 +8,7 @@ ghost use Rattle.reply_codec.specs.CodecRows.{layout_row};
 #[unsafe(no_mangle)]
 pub extern "C" fn stipeflute_storage_layout(capacity_bytes: u32, answer: &mut [u8]) -> u32
     ensures value { result ≡ row_reply 20 answer.old (laid layout_row (layout_of capacity_bytes)) }
-    ensures answer_after { answer.new ≡ row_after 20 answer.old (laid layout_row (layout_of capacity_bytes)) }
+    ensures lent { answer.new ≡ row_after 20 answer.old (laid layout_row (layout_of capacity_bytes)) }
 {
     let made = layout::StorageLayout::new(capacity_bytes);
     reply_codec::lay_layout(made, answer)
@@ -21,7 +21,7 @@ pub extern "C" fn stipeflute_log_page_address(
     answer: &mut [u8],
 ) -> u32
     ensures value { result ≡ row_reply 5 answer.old (laid option_row (log_page_address capacity_bytes page_index)) }
-    ensures answer_after { answer.new ≡ row_after 5 answer.old (laid option_row (log_page_address capacity_bytes page_index)) }
+    ensures lent { answer.new ≡ row_after 5 answer.old (laid option_row (log_page_address capacity_bytes page_index)) }
 {
     reply_codec::lay_address(layout::log_page_address(capacity_bytes, page_index), answer)
 }
@@ -29,7 +29,7 @@ pub extern "C" fn stipeflute_log_page_address(
 #[unsafe(no_mangle)]
 pub extern "C" fn stipeflute_log_sector_count(capacity_bytes: u32, answer: &mut [u8]) -> u32
     ensures value { result ≡ row_reply 4 answer.old (laid number_row (log_sector_count capacity_bytes)) }
-    ensures answer_after { answer.new ≡ row_after 4 answer.old (laid number_row (log_sector_count capacity_bytes)) }
+    ensures lent { answer.new ≡ row_after 4 answer.old (laid number_row (log_sector_count capacity_bytes)) }
 {
     reply_codec::lay_number(layout::log_sector_count(capacity_bytes), answer)
 }
@@ -37,7 +37,7 @@ pub extern "C" fn stipeflute_log_sector_count(capacity_bytes: u32, answer: &mut 
 #[unsafe(no_mangle)]
 pub extern "C" fn stipeflute_sync_ledger_address(capacity_bytes: u32, answer: &mut [u8]) -> u32
     ensures value { result ≡ row_reply 4 answer.old (laid number_row (sync_ledger_address capacity_bytes)) }
-    ensures answer_after { answer.new ≡ row_after 4 answer.old (laid number_row (sync_ledger_address capacity_bytes)) }
+    ensures lent { answer.new ≡ row_after 4 answer.old (laid number_row (sync_ledger_address capacity_bytes)) }
 {
     reply_codec::lay_number(layout::sync_ledger_address(capacity_bytes), answer)
 }
@@ -49,7 +49,7 @@ pub extern "C" fn stipeflute_log_erase_sector_address(
     answer: &mut [u8],
 ) -> u32
     ensures value { result ≡ row_reply 5 answer.old (laid option_row (log_erase_sector_address capacity_bytes step)) }
-    ensures answer_after { answer.new ≡ row_after 5 answer.old (laid option_row (log_erase_sector_address capacity_bytes step)) }
+    ensures lent { answer.new ≡ row_after 5 answer.old (laid option_row (log_erase_sector_address capacity_bytes step)) }
 {
     reply_codec::lay_address(
         layout::log_erase_sector_address(capacity_bytes, step),
@@ -66,7 +66,7 @@ pub extern "C" fn stipeflute_read(
     output: &mut [u8],
 ) -> u32
     ensures value { result ≡ reply_of (read_told capacity_bytes image.now faults.now address output.old) }
-    ensures output_after { output.new ≡ after_read capacity_bytes image.now faults.now address output.old }
+    ensures lent { output.new ≡ after_read capacity_bytes image.now faults.now address output.old }
 {
     reply::done(store::read(capacity_bytes, image, faults, address, output))
 }
@@ -81,7 +81,7 @@ pub extern "C" fn stipeflute_page_program(
     reply: u8,
 ) -> u32
     ensures value { result ≡ reply_of (program_told capacity_bytes image.old address target.now keep.now reply) }
-    ensures image_after { image.new ≡ after_program capacity_bytes image.old address target.now keep.now reply }
+    ensures lent { image.new ≡ after_program capacity_bytes image.old address target.now keep.now reply }
 {
     reply::done(store::page_program(capacity_bytes, image, address, target, keep, reply))
 }
@@ -94,7 +94,7 @@ pub extern "C" fn stipeflute_erase_sector_4k(
     reply: u8,
 ) -> u32
     ensures value { result ≡ reply_of (erase_told capacity_bytes image.old address reply) }
-    ensures image_after { image.new ≡ after_erase capacity_bytes image.old address reply }
+    ensures lent { image.new ≡ after_erase capacity_bytes image.old address reply }
 {
     reply::done(store::erase_sector_4k(capacity_bytes, image, address, reply))
 }

@@ -15,7 +15,7 @@ pub extern "C" fn stipeflute_scan_log(
     answer: &mut [u8],
 ) -> u32
     ensures value { result ≡ row_reply 9 answer.old (laid scan_row (scanned capacity_bytes image.now faults.now)) }
-    ensures answer_after { answer.new ≡ row_after 9 answer.old (laid scan_row (scanned capacity_bytes image.now faults.now)) }
+    ensures lent { answer.new ≡ row_after 9 answer.old (laid scan_row (scanned capacity_bytes image.now faults.now)) }
 {
     reply_log::lay_scan(records::scan_log(capacity_bytes, image, faults), answer)
 }
@@ -28,7 +28,7 @@ pub extern "C" fn stipeflute_explain(
     answer: &mut [u8],
 ) -> u32
     ensures value { result ≡ row_reply 11 answer.old (laid reason_row (explained capacity_bytes image.now faults.now)) }
-    ensures answer_after { answer.new ≡ row_after 11 answer.old (laid reason_row (explained capacity_bytes image.now faults.now)) }
+    ensures lent { answer.new ≡ row_after 11 answer.old (laid reason_row (explained capacity_bytes image.now faults.now)) }
 {
     reply_log::lay_explained(records::explain(capacity_bytes, image, faults), answer)
 }
@@ -42,7 +42,7 @@ pub extern "C" fn stipeflute_page_flight_id(
     answer: &mut [u8],
 ) -> u32
     ensures value { result ≡ row_reply 5 answer.old (laid flight_row (flight_of_page capacity_bytes image.now faults.now index)) }
-    ensures answer_after { answer.new ≡ row_after 5 answer.old (laid flight_row (flight_of_page capacity_bytes image.now faults.now index)) }
+    ensures lent { answer.new ≡ row_after 5 answer.old (laid flight_row (flight_of_page capacity_bytes image.now faults.now index)) }
 {
     reply_log::lay_flight(
         records::page_flight_id(capacity_bytes, image, faults, index),
@@ -60,7 +60,7 @@ pub extern "C" fn stipeflute_find_flight(
     answer: &mut [u8],
 ) -> u32
     ensures value { result ≡ row_reply 13 answer.old (laid found_row (found_flight capacity_bytes image.now faults.now used_pages flight_id)) }
-    ensures answer_after { answer.new ≡ row_after 13 answer.old (laid found_row (found_flight capacity_bytes image.now faults.now used_pages flight_id)) }
+    ensures lent { answer.new ≡ row_after 13 answer.old (laid found_row (found_flight capacity_bytes image.now faults.now used_pages flight_id)) }
 {
     reply_log::lay_find(
         log_search::find_flight(capacity_bytes, image, faults, used_pages, flight_id),
@@ -77,7 +77,7 @@ pub extern "C" fn stipeflute_older_flight(
     answer: &mut [u8],
 ) -> u32
     ensures value { result ≡ row_reply 13 answer.old (laid found_row (older_flight capacity_bytes image.now faults.now end)) }
-    ensures answer_after { answer.new ≡ row_after 13 answer.old (laid found_row (older_flight capacity_bytes image.now faults.now end)) }
+    ensures lent { answer.new ≡ row_after 13 answer.old (laid found_row (older_flight capacity_bytes image.now faults.now end)) }
 {
     reply_log::lay_find(
         log_search::older_flight(capacity_bytes, image, faults, end),

@@ -13,7 +13,7 @@ pub extern "C" fn stipeflute_read_header(
     answer: &mut [u8],
 ) -> u32
     ensures value { result ≡ row_reply 1 answer.old (laid header_row (read_header capacity_bytes image.now faults.now)) }
-    ensures answer_after { answer.new ≡ row_after 1 answer.old (laid header_row (read_header capacity_bytes image.now faults.now)) }
+    ensures lent { answer.new ≡ row_after 1 answer.old (laid header_row (read_header capacity_bytes image.now faults.now)) }
 {
     reply_log::lay_header(
         sync_ledger::read_header(capacity_bytes, image, faults),
@@ -28,7 +28,7 @@ pub extern "C" fn stipeflute_bit_location(
     answer: &mut [u8],
 ) -> u32
     ensures value { result ≡ row_reply 5 answer.old (laid bit_row (bit_location capacity_bytes flight_id)) }
-    ensures answer_after { answer.new ≡ row_after 5 answer.old (laid bit_row (bit_location capacity_bytes flight_id)) }
+    ensures lent { answer.new ≡ row_after 5 answer.old (laid bit_row (bit_location capacity_bytes flight_id)) }
 {
     reply_log::lay_bit(sync_ledger::bit_location(capacity_bytes, flight_id), answer)
 }
@@ -42,7 +42,7 @@ pub extern "C" fn stipeflute_is_synced(
     answer: &mut [u8],
 ) -> u32
     ensures value { result ≡ row_reply 1 answer.old (laid flag_row (is_synced capacity_bytes image.now faults.now flight_id)) }
-    ensures answer_after { answer.new ≡ row_after 1 answer.old (laid flag_row (is_synced capacity_bytes image.now faults.now flight_id)) }
+    ensures lent { answer.new ≡ row_after 1 answer.old (laid flag_row (is_synced capacity_bytes image.now faults.now flight_id)) }
 {
     reply_log::lay_yes_no(
         sync_ledger::is_synced(capacity_bytes, image, faults, flight_id),
@@ -59,7 +59,7 @@ pub extern "C" fn stipeflute_next_mark_step(
     answer: &mut [u8],
 ) -> u32
     ensures value { result ≡ row_reply 6 answer.old (laid step_row (next_mark_step capacity_bytes image.now faults.now flight_id)) }
-    ensures answer_after { answer.new ≡ row_after 6 answer.old (laid step_row (next_mark_step capacity_bytes image.now faults.now flight_id)) }
+    ensures lent { answer.new ≡ row_after 6 answer.old (laid step_row (next_mark_step capacity_bytes image.now faults.now flight_id)) }
 {
     reply_log::lay_step(
         sync_ledger::next_mark_step(capacity_bytes, image, faults, flight_id),
@@ -78,7 +78,7 @@ pub extern "C" fn stipeflute_start_mark_step(
     reply: u8,
 ) -> u32
     ensures value { result ≡ reply_of (step_told capacity_bytes image.old (step_of kind address value) keep.now reply) }
-    ensures image_after { image.new ≡ after_step capacity_bytes image.old (step_of kind address value) keep.now reply }
+    ensures lent { image.new ≡ after_step capacity_bytes image.old (step_of kind address value) keep.now reply }
 {
     let step = reply_log::step_of(kind, address, value);
     reply::done(sync_ledger::start_mark_step(capacity_bytes, image, step, keep, reply))
@@ -95,7 +95,7 @@ pub extern "C" fn stipeflute_all_synced(
     answer: &mut [u8],
 ) -> u32
     ensures value { result ≡ row_reply 1 answer.old (laid flag_row (all_synced capacity_bytes image.now faults.now used_pages (recording_of is_recording recording))) }
-    ensures answer_after { answer.new ≡ row_after 1 answer.old (laid flag_row (all_synced capacity_bytes image.now faults.now used_pages (recording_of is_recording recording))) }
+    ensures lent { answer.new ≡ row_after 1 answer.old (laid flag_row (all_synced capacity_bytes image.now faults.now used_pages (recording_of is_recording recording))) }
 {
     let recorded = reply_log::recording_of(is_recording, recording);
     reply_log::lay_yes_no(

@@ -18,7 +18,7 @@ pub extern "C" fn stipeflute_unsynced_flights(
     answer: &mut [u8],
 ) -> u32
     ensures value { result ≡ row_reply 98 answer.old (laid list_row (told_list (unsynced_flights capacity_bytes image.now faults.now used_pages (recording_of is_recording recording)))) }
-    ensures answer_after { answer.new ≡ row_after 98 answer.old (laid list_row (told_list (unsynced_flights capacity_bytes image.now faults.now used_pages (recording_of is_recording recording)))) }
+    ensures lent { answer.new ≡ row_after 98 answer.old (laid list_row (told_list (unsynced_flights capacity_bytes image.now faults.now used_pages (recording_of is_recording recording)))) }
 {
     let recorded = reply_log::recording_of(is_recording, recording);
     let list = log_sync::unsynced_flights(capacity_bytes, image, faults, used_pages, recorded);
@@ -33,7 +33,7 @@ pub extern "C" fn stipeflute_unsynced_lines(
     answer: &mut [u8],
 ) -> u32
     ensures value { result ≡ row_reply 476 answer.old (laid (text_row 472) (lines_of flights.now count more)) }
-    ensures answer_after { answer.new ≡ row_after 476 answer.old (laid (text_row 472) (lines_of flights.now count more)) }
+    ensures lent { answer.new ≡ row_after 476 answer.old (laid (text_row 472) (lines_of flights.now count more)) }
 {
     reply_text::lay_unsynced_lines(flights, count, more, answer)
 }
@@ -41,7 +41,7 @@ pub extern "C" fn stipeflute_unsynced_lines(
 #[unsafe(no_mangle)]
 pub extern "C" fn stipeflute_ack_response(number: u8, answer: &mut [u8]) -> u32
     ensures value { result ≡ row_reply 60 answer.old (gives (text_row 56 (ack_text number))) }
-    ensures answer_after { answer.new ≡ row_after 60 answer.old (gives (text_row 56 (ack_text number))) }
+    ensures lent { answer.new ≡ row_after 60 answer.old (gives (text_row 56 (ack_text number))) }
 {
     reply_text::lay_ack_response(number, answer)
 }

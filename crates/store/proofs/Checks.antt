@@ -73,17 +73,17 @@ told_refused : {r : Refusal} {n : ℕ} {a : Answer (Unit {0})} → r ≡ refusal
 told_refused e f = ap {B = Answer (Unit {0})} (λ (r : Refusal). refuses r.number r.fault) e ∙ f
 
 module _ (c n : ℕ) (b : Bool) (e : b ≡ valid_capacity c) where
-  pub no_layout : (r : Refusal) → not b ≡ true → r ≡ refusal invalid_layout 0 → told_done (Refused r) ≡ on_image c n (gives tt)
+  pub no_layout : (r : Refusal) → b ≡ false → r ≡ refusal invalid_layout 0 → told_done (Refused r) ≡ on_image c n (gives tt)
   unfolding on_image
-  no_layout r h w = told_refused w (rw (← e, not-true b h) refl)
+  no_layout r h w = told_refused w (rw (← e, h) refl)
 
-  pub other_length : (r : Refusal) → not b ≡ false → (n ≡ c → ⊥) → r ≡ refusal bad_length 0 → told_done (Refused r) ≡ on_image c n (gives tt)
+  pub other_length : (r : Refusal) → b ≡ true → (n ≡ c → ⊥) → r ≡ refusal bad_length 0 → told_done (Refused r) ≡ on_image c n (gives tt)
   unfolding on_image
-  other_length r h l w = told_refused w (rw (← e, not-false b h, ne_eqb n c l) refl)
+  other_length r h l w = told_refused w (rw (← e, h, ne_eqb n c l) refl)
 
-  pub its_length : not b ≡ false → n ≡ c → told_done Done ≡ on_image c n (gives tt)
+  pub its_length : b ≡ true → n ≡ c → told_done Done ≡ on_image c n (gives tt)
   unfolding on_image
-  its_length h l = rw (← e, not-false b h, eq-eqb n c l) refl
+  its_length h l = rw (← e, h, eq-eqb n c l) refl
 
 -- ---- after checked_image: one more length
 

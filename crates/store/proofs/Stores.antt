@@ -26,8 +26,8 @@ pub record Ends (a told : Answer (Unit {0})) (l after : List ℕ) : Type 0 where
   pub answer : a ≡ told
   pub left : l ≡ after
 
-pub ends : {a told : Answer (Unit {0})} {l after : List ℕ} → Ends a told l after → (a ≡ told) × (l ≡ after)
-ends e = (e.answer, e.left)
+pub ends : {a told : Answer (Unit {0})} {l after : List ℕ} → Ends a told l after → record { value : a ≡ told; lent : l ≡ after }
+ends e = record { value = e.answer; lent = e.left }
 
 -- ---- a refusal, and a reply
 
@@ -80,23 +80,23 @@ module _ (c : ℕ) (m f : List ℕ) (a : ℕ) (out : List ℕ) (s : DoneAnswer) 
   read_untested x w = stays_read (bytes_read c m f a (length out)) out x.number x.fault (lengths_refused c (length m) (length f) (c / 256) s e _ x w)
 
   module _ (ok : s ≡ Done) (b : Bool) (p : b ≡ in_one_page c a (length out)) where
-    pub read_crosses : (r : Refusal) → not b ≡ true → r ≡ refusal bad_length 0 → Ends (told_done (Refused r)) (read_told c m f a out) out (after_read c m f a out)
+    pub read_crosses : (r : Refusal) → b ≡ false → r ≡ refusal bad_length 0 → Ends (told_done (Refused r)) (read_told c m f a out) out (after_read c m f a out)
     unfolding bytes_read
     read_crosses r h w =
         refused_read (bytes_read c m f a (length out)) out r bad_length 0 w
-        (sym (lengths_passed c (length m) (length f) (c / 256) s e _ ok ∙ rw (← p, not-true b h) refl))
+        (sym (lengths_passed c (length m) (length f) (c / 256) s e _ ok ∙ rw (← p, h) refl))
 
-    module _ (h : not b ≡ false) (x : ℕ) (q : x ≡ fault_at f a) where
+    module _ (h : b ≡ true) (x : ℕ) (q : x ≡ fault_at f a) where
       reads : bytes_read c m f a (length out) ≡ read_of f a (part a (length out) m)
       unfolding bytes_read
-      reads = lengths_passed c (length m) (length f) (c / 256) s e _ ok ∙ rw (← p, not-false b h) refl
+      reads = lengths_passed c (length m) (length f) (c / 256) s e _ ok ∙ rw (← p, h) refl
 
       pub read_faulty : (r : Refusal) → (x ≡ 0 → ⊥) → r ≡ refusal device x → Ends (told_done (Refused r)) (read_told c m f a out) out (after_read c m f a out)
       unfolding read_of
       read_faulty r n w = refused_read (bytes_read c m f a (length out)) out r device x w (sym (reads ∙ rw (← q, ne_eqb x 0 n) refl))
 
       pub part_there : a + length out ≤ length m
-      part_there = omega (arith, one_page c a (length out) (sym p ∙ not-false b h), (lengths_held c (length m) (length f) (c / 256) s e ok).1)
+      part_there = omega (arith, one_page c a (length out) (sym p ∙ h), (lengths_held c (length m) (length f) (c / 256) s e ok).1)
 
       pub read_well : (new : List ℕ) → x ≡ 0 → new ≡ placed out 0 (take (a + length out - a) (drop a m))
           → Ends (told_done Done) (read_told c m f a out) new (after_read c m f a out)
@@ -116,21 +116,21 @@ module _ (c : ℕ) (m : List ℕ) (a : ℕ) (t k : List ℕ) (reply : ℕ) (s : 
   program_untested x w = stays (program_stores c m a t k reply) m reply x.number x.fault (lengths_refused c (length m) (length k) 256 s e _ x w)
 
   module _ (ok : s ≡ Done) (b : Bool) (p : b ≡ in_one_page c a (length t)) where
-    pub program_crosses : (r : Refusal) → not b ≡ true → r ≡ refusal bad_length 0
+    pub program_crosses : (r : Refusal) → b ≡ false → r ≡ refusal bad_length 0
         → Ends (told_done (Refused r)) (program_told c m a t k reply) m (after_program c m a t k reply)
     unfolding program_stores
     program_crosses r h w =
         refused (program_stores c m a t k reply) m reply r bad_length 0 w
-        (sym (lengths_passed c (length m) (length k) 256 s e _ ok ∙ rw (← p, not-true b h) refl))
+        (sym (lengths_passed c (length m) (length k) 256 s e _ ok ∙ rw (← p, h) refl))
 
-    module _ (h : not b ≡ false) where
+    module _ (h : b ≡ true) where
       pub target_fits : a + length t ≤ length m
-      target_fits = omega (arith, one_page c a (length t) (sym p ∙ not-false b h), (lengths_held c (length m) (length k) 256 s e ok).1)
+      target_fits = omega (arith, one_page c a (length t) (sym p ∙ h), (lengths_held c (length m) (length k) 256 s e ok).1)
 
       module _ (new : List ℕ) (w : new ≡ programmed m a t (mask (eqb reply 0) k)) where
         stored : gives new ≡ program_stores c m a t k reply
         unfolding program_stores
-        stored = sym (lengths_passed c (length m) (length k) 256 s e _ ok ∙ rw (← p, not-false b h, w) refl)
+        stored = sym (lengths_passed c (length m) (length k) 256 s e _ ok ∙ rw (← p, h, w) refl)
 
         pub program_fails : (r : Refusal) → (reply ≡ 0 → ⊥) → r ≡ refusal device reply
             → Ends (told_done (Refused r)) (program_told c m a t k reply) new (after_program c m a t k reply)
@@ -147,20 +147,20 @@ module _ (c : ℕ) (m : List ℕ) (a reply : ℕ) (s : DoneAnswer) (e : told_don
   erase_untested x w = stays (erase_stores c m a reply) m reply x.number x.fault (image_refused c (length m) s e _ x w)
 
   module _ (ok : s ≡ Done) (b : Bool) (p : b ≡ is_sector c a) where
-    pub erase_misplaced : (r : Refusal) → not b ≡ true → r ≡ refusal bad_length 0
+    pub erase_misplaced : (r : Refusal) → b ≡ false → r ≡ refusal bad_length 0
         → Ends (told_done (Refused r)) (erase_told c m a reply) m (after_erase c m a reply)
     unfolding erase_stores
     erase_misplaced r h w =
         let held = image_held c (length m) s e ok in
         refused (erase_stores c m a reply) m reply r bad_length 0 w
-        (sym (on_image_lem c (length m) _ held.0 held.1 ∙ rw (← p, not-true b h) refl))
+        (sym (on_image_lem c (length m) _ held.0 held.1 ∙ rw (← p, h) refl))
 
-    module _ (h : not b ≡ false) where
+    module _ (h : b ≡ true) where
       stores : (q : Bool) → eqb reply 0 ≡ q → gives (cond q (erased m a) m) ≡ erase_stores c m a reply
       unfolding erase_stores
       stores q n =
           let held = image_held c (length m) s e ok in
-          sym (on_image_lem c (length m) _ held.0 held.1 ∙ rw (← p, not-false b h, n) refl)
+          sym (on_image_lem c (length m) _ held.0 held.1 ∙ rw (← p, h, n) refl)
 
       pub erase_fails : (r : Refusal) → (reply ≡ 0 → ⊥) → r ≡ refusal device reply
           → Ends (told_done (Refused r)) (erase_told c m a reply) m (after_erase c m a reply)

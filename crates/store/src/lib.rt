@@ -103,8 +103,8 @@ pub fn read(
     address: u32,
     output: &mut [u8],
 ) -> DoneAnswer
-    ensures result_value { told_done result ≡ read_told capacity_bytes image.now faults.now address output.old }
-    ensures output_after { output.new ≡ after_read capacity_bytes image.now faults.now address output.old }
+    ensures value { told_done result ≡ read_told capacity_bytes image.now faults.now address output.old }
+    ensures lent { output.new ≡ after_read capacity_bytes image.now faults.now address output.old }
 {
     match checked_store(capacity_bytes, image.len(), faults.len()) {
         DoneAnswer::Refused(refusal) => DoneAnswer::Refused(refusal),
@@ -158,8 +158,8 @@ pub fn page_program(
     keep: &[u8],
     reply: u8,
 ) -> DoneAnswer
-    ensures result_value { told_done result ≡ program_told capacity_bytes image.old address target.now keep.now reply }
-    ensures image_after { image.new ≡ after_program capacity_bytes image.old address target.now keep.now reply }
+    ensures value { told_done result ≡ program_told capacity_bytes image.old address target.now keep.now reply }
+    ensures lent { image.new ≡ after_program capacity_bytes image.old address target.now keep.now reply }
 {
     match checked_mask(capacity_bytes, image.len(), keep.len()) {
         DoneAnswer::Refused(refusal) => DoneAnswer::Refused(refusal),
@@ -178,8 +178,8 @@ pub fn page_program(
 
 // A sector erased to 0xff. `reply` is the device's: 0 succeeds; another is its fault, refused 6, and nothing is altered.
 pub fn erase_sector_4k(capacity_bytes: u32, image: &mut [u8], address: u32, reply: u8) -> DoneAnswer
-    ensures result_value { told_done result ≡ erase_told capacity_bytes image.old address reply }
-    ensures image_after { image.new ≡ after_erase capacity_bytes image.old address reply }
+    ensures value { told_done result ≡ erase_told capacity_bytes image.old address reply }
+    ensures lent { image.new ≡ after_erase capacity_bytes image.old address reply }
 {
     match checked_image(capacity_bytes, image.len()) {
         DoneAnswer::Refused(refusal) => DoneAnswer::Refused(refusal),

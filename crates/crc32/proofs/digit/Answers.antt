@@ -16,4 +16,4 @@ returns c =
     let k = 16 * c.args.place + c.args.v % 16 in
     let place : k / 16 ≡ c.args.place = omega arith in
     let low : k % 16 ≡ c.args.v % 16 = omega arith in
-    c.requires.0.1 k (omega arith) ∙ ap₂ digit_steps place low
+    c.requires.tabled.1 k (omega arith) ∙ ap₂ digit_steps place low

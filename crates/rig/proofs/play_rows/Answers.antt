@@ -55,8 +55,8 @@ loop-i-preserved c =
       omega (arith, turn),
       c.step-played.auto.1.1.0 ∙ l.1,
       c.tell-in-loop-i.auto.0 ∙ l.2,
-      played_as_lem _ _ _ _ _ c.step-played.ensures.0 l.3,
-      leads_again _ _ _ _ _ _ _ (omega (arith, turn)) _ _ _ _ l.2 c.step-played.ensures.0 c.step-played.ensures.1 refl
+      played_as_lem _ _ _ _ _ c.step-played.ensures.value l.3,
+      leads_again _ _ _ _ _ _ _ (omega (arith, turn)) _ _ _ _ l.2 c.step-played.ensures.value c.step-played.ensures.lent refl
           c.tell-in-loop-i.ensures l.4,
       l.5,
     )
