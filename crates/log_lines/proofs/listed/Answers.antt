@@ -21,7 +21,7 @@ loop-i-init c =
     let none = c.no_lines in
     let first = c.count_line in
     let r =
-    listed_first c.args.count c.args.more c.args.t1 (omega arith) none.result c.add-lines.result first.result
+    listed_first c.args.count c.args.more c.args.flights (omega arith) none.result c.add-lines.result first.result
     none.ensures first.ensures c.add-lines.ensures
     in
     (omega arith, r.0, r.1)
