@@ -2,12 +2,12 @@
 -- Assumes nothing.
 use Prim.Native.Nat.{ℕ, suc, ◌+◌, ◌≤◌, ◌<◌}
 use mathlib.Core.Path.{◌≡◌, refl, sym, ap, ◌∙◌}
-use mathlib.Core.Bool.{Bool, cond, true, false, not}
+use mathlib.Core.Bool.{Bool, cond, true, false}
 use mathlib.Core.List.{List, ◌++◌}
 use native.Mathlib.Omega.{arith}
 use native.Mathlib.Nat.{suc-ne-zero}
 use native.Mathlib.Numerals.{add-one}
-use lib.Dec.{T as Holds, eqb, leb}
+use lib.Dec.{eqb, leb}
 use lib.ListN.{length, get_or, set, take, drop}
 use lib.Seq.{length-take-le, length_front, take-suc, drop-cons, append_snoc, set_at}
 use borrow.Author.Tests.{lt-leb, le-leb, eq-eqb, ne_eqb, eqb-true, leb-true}
@@ -71,22 +71,11 @@ accepted row_length count e = by_tests (eqb row_length 8) (leb count 8) refl ref
 
 -- the row that is left, as a test of the number has it
 pub kept_row : (list : Unsynced) (row : List StoredFlight) (number : ℕ) → number ≡ row_number (length row) list.count
-    → Holds (not (eqb number 0)) → row ≡ after_fill list row
+    → (number ≡ 0 → ⊥) → row ≡ after_fill list row
 unfolding after_fill
-kept_row list row number e h = rw (ap (λ (n : ℕ). eqb n 0) (sym e) ∙ fails (eqb number 0) h) refl
-  where
-    fails : (t : Bool) → Holds (not t) → t ≡ false
-    fails true h = absurd h
-    fails false h = refl
+kept_row list row number e h = rw (ne_eqb (row_number (length row) list.count) 0 (λ z. h (e ∙ z))) refl
 
-pub taken_row : (list : Unsynced) (row : List StoredFlight) (number : ℕ) → number ≡ row_number (length row) list.count
-    → Holds (not (not (eqb number 0))) → (0 ≡ row_number (length row) list.count) × (filled list row ≡ after_fill list row)
+pub taken_row : (list : Unsynced) (row : List StoredFlight) → row_number (length row) list.count ≡ 0
+    → filled list row ≡ after_fill list row
 unfolding after_fill
-taken_row list row number e h = (zero, rw (sym zero) refl)
-  where
-    holds : (t : Bool) → Holds (not (not t)) → t ≡ true
-    holds true h = refl
-    holds false h = absurd h
-
-    zero : 0 ≡ row_number (length row) list.count
-    zero = sym (eqb-true number 0 (holds (eqb number 0) h)) ∙ e
+taken_row list row e = rw (eq-eqb (row_number (length row) list.count) 0 e) refl
