@@ -24,8 +24,8 @@ pub record Ends (r reply : ℕ) (row after : List ℕ) : Type 0 where
   pub returned : r ≡ reply
   pub left : row ≡ after
 
-pub ends : {r reply : ℕ} {row after : List ℕ} → Ends r reply row after → (r ≡ reply) × (row ≡ after)
-ends e = (e.returned, e.left)
+pub ends : {r reply : ℕ} {row after : List ℕ} → Ends r reply row after → record { value : r ≡ reply; lent : row ≡ after }
+ends e = record { value = e.returned; lent = e.left }
 
 -- ---- done
 
