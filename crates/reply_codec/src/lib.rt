@@ -132,7 +132,7 @@ fn record_at(rows: &[u8], start: usize) -> FlightRecord
 
 fn records_of(rows: &[u8]) -> [FlightRecord; blackbox::RECORDS_PER_PAGE]
     requires { length rows.now ≡ 240 }
-    ensures { result ≡ Page.recordsIn 5 rows.now }
+    ensures { result ≡ Page.records_in 5 rows.now }
 {
     let a = record_at(rows, 0);
     let b = record_at(rows, 48);
@@ -144,7 +144,7 @@ fn records_of(rows: &[u8]) -> [FlightRecord; blackbox::RECORDS_PER_PAGE]
 
 // A page of the first `count` of five rows of 48 bytes; rows of another length are refused 17, more than five records 1.
 pub fn encode_rows(flight_id: u32, page_sequence: u32, rows: &[u8], count: usize) -> EncodedPage
-    ensures { result ≡ Page.pageAnswer (encoded_rows flight_id page_sequence rows.now count) }
+    ensures { result ≡ Page.page_answer (encoded_rows flight_id page_sequence rows.now count) }
 {
     if rows.len() != blackbox::PAGE_DATA_LEN {
         return EncodedPage {

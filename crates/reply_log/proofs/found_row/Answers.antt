@@ -6,4 +6,4 @@ use Rattle.reply_log.proofs.found_row.Goals as goal
 
 pub returns : goal.returns
 unfolding placed le_bytes stored_row
-returns c = rw (c.put_bytes.ensures, c.Stored-row.ensures)
+returns c = rw (c.put_bytes.ensures, c.stored_row-stored.ensures)

@@ -18,8 +18,8 @@ pub loop-i-preserved : goal.loop-i-preserved
 loop-i-preserved c =
     let l = c.loop-i in (
       omega arith,
-      c.put_bytes.auto.0 ∙ l.invariant.1,
-      entry_more _ l.i (omega arith) (omega arith) _ _ _ l.invariant.2 c.Stored-row.ensures c.put_bytes.ensures,
+      c.put_bytes.auto.out ∙ l.invariant.1,
+      entry_more _ l.i (omega arith) (omega arith) _ _ _ l.invariant.2 c.stored_row-row.ensures c.put_bytes.ensures,
     )
 
 pub returns : goal.returns
