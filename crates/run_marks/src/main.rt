@@ -4,8 +4,9 @@
 #![tactic(auto)]
 
 use laws::{DoneAnswer, Refusal, YesNoAnswer};
-use libc::STDOUT_FILENO;
 use sync_ledger::{MarkStep, StepAnswer};
+
+const STDOUT: i32 = 1;
 
 const CAPACITY: u32 = 20480;
 
@@ -14,11 +15,11 @@ const LEDGER: usize = 20480 - store::SECTOR_LEN;
 const FLIGHT: u32 = 9;
 
 fn say(text: &[u8]) {
-    io::write_all(STDOUT_FILENO, text);
+    io::write_all(STDOUT, text);
 }
 
 fn say_number(n: u64) {
-    io::print_decimal(STDOUT_FILENO, n);
+    io::print_decimal(STDOUT, n);
 }
 
 fn say_refusal(refusal: Refusal) {

@@ -5,6 +5,9 @@
 // said.
 #![tactic(auto)]
 
+use std::fs::File;
+use std::os::fd::AsRawFd;
+
 // Page `index` as 256 bytes of one value.
 fn put_value(image: &mut [u8], index: u32, value: u8) {
     let page = [value; 256];
@@ -29,94 +32,93 @@ fn put_flight(image: &mut [u8], first: u32, count: u32, flight: u32) {
 }
 
 // A sample's name, whether its file is what the recipe builds, and the census of the file.
-fn sample(name: &[u8], image: &[u8]) {
+fn sample(rt: &HostRuntime, name: &str, image: &[u8]) -> std::io::Result<()> {
     io::write_all(1, b"sample ");
-    io::write_all(1, name);
+    io::write_all(1, name.as_bytes());
     let mut stored = [0u8; 20481];
-    let input = os::open_read(name);
-    let n = io::read_full(input, &mut stored);
+    let input = File::open(rt, name)?;
+    let n = io::read_full(input.as_raw_fd(), &mut stored);
     if words::same_bytes(&stored[..n], image) {
         io::write_all(1, b" as built\n");
     } else {
         io::write_all(1, b" DIFFERS from what the recipe builds\n");
     }
-    libc::close(input);
-    census_file(name);
+    census_file(rt, name)
 }
 
 // The census of a file, by the code of the program `census`.
-fn census_file(name: &[u8]) {
-    let input = os::open_read(name);
-    census_print::print_census(input);
-    libc::close(input);
+fn census_file(rt: &HostRuntime, name: &str) -> std::io::Result<()> {
+    let input = File::open(rt, name)?;
+    census_print::print_census(input.as_raw_fd());
+    Ok(())
 }
 
 // Document 01's example: pages 0 and 1 of flight 1, page 2 all zero, page 3 of flight 2.
-fn example() {
+fn example(rt: &HostRuntime) -> std::io::Result<()> {
     let mut image = [0xffu8; 20480];
     put_flight(&mut image, 0, 2, 1);
     put_value(&mut image, 2, 0);
     put_flight(&mut image, 3, 1, 2);
-    sample(b"example", &image);
+    sample(rt, "example", &image)
 }
 
 // No page used.
-fn fresh() {
+fn fresh(rt: &HostRuntime) -> std::io::Result<()> {
     let image = [0xffu8; 20480];
-    sample(b"fresh", &image);
+    sample(rt, "fresh", &image)
 }
 
 // All 16 pages used: eight of flight 1, eight of flight 2.
-fn full() {
+fn full(rt: &HostRuntime) -> std::io::Result<()> {
     let mut image = [0xffu8; 20480];
     put_flight(&mut image, 0, 8, 1);
     put_flight(&mut image, 8, 8, 2);
-    sample(b"full", &image);
+    sample(rt, "full", &image)
 }
 
 // Two brown-outs: pages 0 and 1 of flight 1, then two pages all zero.
-fn foreign() {
+fn foreign(rt: &HostRuntime) -> std::io::Result<()> {
     let mut image = [0xffu8; 20480];
     put_flight(&mut image, 0, 2, 1);
     put_value(&mut image, 2, 0);
     put_value(&mut image, 3, 0);
-    sample(b"foreign", &image);
+    sample(rt, "foreign", &image)
 }
 
 // Flight 1 after flight 2.
-fn falling() {
+fn falling(rt: &HostRuntime) -> std::io::Result<()> {
     let mut image = [0xffu8; 20480];
     put_flight(&mut image, 0, 2, 2);
     put_flight(&mut image, 2, 1, 1);
-    sample(b"falling", &image);
+    sample(rt, "falling", &image)
 }
 
 // The full log with page 3 blank: the halving does not see it, so it is used and torn.
-fn hole() {
+fn hole(rt: &HostRuntime) -> std::io::Result<()> {
     let mut image = [0xffu8; 20480];
     put_flight(&mut image, 0, 8, 1);
     put_flight(&mut image, 8, 8, 2);
     put_value(&mut image, 3, 0xff);
-    sample(b"hole", &image);
+    sample(rt, "hole", &image)
 }
 
 // Flight 1 ends with a page of two records, and the page behind it is torn: all zero. Then page 3 of flight 2.
-fn short() {
+fn short(rt: &HostRuntime) -> std::io::Result<()> {
     let mut image = [0xffu8; 20480];
     put_flight(&mut image, 0, 1, 1);
     put_page(&mut image, 0, 1, 1, 2);
     put_value(&mut image, 2, 0);
     put_flight(&mut image, 3, 1, 2);
-    sample(b"short", &image);
+    sample(rt, "short", &image)
 }
 
 // Pages that decode and have no record: the second of flight 1, and the only one of flight 2.
-fn empty() {
+fn empty(rt: &HostRuntime) -> std::io::Result<()> {
     let mut image = [0xffu8; 20480];
     put_flight(&mut image, 0, 1, 1);
     put_page(&mut image, 0, 1, 1, 0);
     put_page(&mut image, 2, 2, 0, 0);
-    sample(b"empty", &image);
+    sample(rt, "empty", &image)
 }
 
 // The next number of the noise: 75 times the last and 74 more, modulo 65,537.
@@ -148,34 +150,40 @@ fn write_part(output: i32, block: &[u8], rest: usize) {
     }
 }
 
-// So many blocks of 4,096 bytes of noise and some bytes more, as a file, and its census.
-fn noise(blocks: u32, rest: u32) {
+// So many blocks of 4,096 bytes of noise and some bytes more, as a file.
+fn write_noise(rt: &HostRuntime, blocks: u32, rest: u32) -> std::io::Result<()> {
     let mut block = [0u8; 4096];
     fill_noise(&mut block);
-    let output = os::open_overwrite(b"noise");
+    let file = File::create(rt, "noise")?;
+    let output = file.as_raw_fd();
     write_blocks(output, &block, blocks);
     write_part(output, &block, rest as usize);
-    libc::close(output);
+    Ok(())
+}
+
+// The census of a file of noise.
+fn noise(rt: &HostRuntime, blocks: u32, rest: u32) -> std::io::Result<()> {
+    write_noise(rt, blocks, rest)?;
     io::write_all(1, b"noise of ");
     io::print_decimal(1, blocks as u64 * 4096 + rest as u64);
     io::write_all(1, b" bytes\n");
-    census_file(b"noise");
+    census_file(rt, "noise")
 }
 
-fn main() {
-    example();
-    fresh();
-    full();
-    foreign();
-    falling();
-    hole();
-    short();
-    empty();
-    noise(0, 0);
-    noise(0, 1);
-    noise(4, 0);
-    noise(4, 4095);
-    noise(15, 0);
-    noise(15, 1);
-    noise(256, 0);
+fn main(rt: HostRuntime) -> std::io::Result<()> {
+    example(&rt)?;
+    fresh(&rt)?;
+    full(&rt)?;
+    foreign(&rt)?;
+    falling(&rt)?;
+    hole(&rt)?;
+    short(&rt)?;
+    empty(&rt)?;
+    noise(&rt, 0, 0)?;
+    noise(&rt, 0, 1)?;
+    noise(&rt, 4, 0)?;
+    noise(&rt, 4, 4095)?;
+    noise(&rt, 15, 0)?;
+    noise(&rt, 15, 1)?;
+    noise(&rt, 256, 0)
 }

@@ -10,8 +10,7 @@ ghost use Rattle.reply_codec.specs.CodecRows.{metadata_row, as_is, encoded_rows}
 
 use blackbox::FlightRecord;
 
-#[unsafe(no_mangle)]
-pub extern "C" fn stipeflute_crc32(bytes: &[u8], answer: &mut [u8]) -> u32
+pub fn stipeflute_crc32(bytes: &[u8], answer: &mut [u8]) -> u32
     ensures value { result ≡ row_reply 4 answer.old (gives (number_row (crc32_of bytes.now))) }
     ensures lent { answer.new ≡ row_after 4 answer.old (gives (number_row (crc32_of bytes.now))) }
 {
@@ -19,8 +18,7 @@ pub extern "C" fn stipeflute_crc32(bytes: &[u8], answer: &mut [u8]) -> u32
     reply::give_number(answer, checksum)
 }
 
-#[unsafe(no_mangle)]
-pub extern "C" fn stipeflute_record_encode(
+pub fn stipeflute_record_encode(
     timestamp_us: u32,
     control_sequence: u32,
     imu_sequence: u32,
@@ -67,16 +65,14 @@ pub extern "C" fn stipeflute_record_encode(
     reply_codec::give_record(record, answer)
 }
 
-#[unsafe(no_mangle)]
-pub extern "C" fn stipeflute_record_decode(input: &[u8], answer: &mut [u8]) -> u32
+pub fn stipeflute_record_decode(input: &[u8], answer: &mut [u8]) -> u32
     ensures value { result ≡ row_reply 48 answer.old (laid record_bytes (record_decoded input.now)) }
     ensures lent { answer.new ≡ row_after 48 answer.old (laid record_bytes (record_decoded input.now)) }
 {
     reply_codec::lay_record(FlightRecord::decode(input), answer)
 }
 
-#[unsafe(no_mangle)]
-pub extern "C" fn stipeflute_encode_page(
+pub fn stipeflute_encode_page(
     flight_id: u32,
     page_sequence: u32,
     rows: &[u8],
@@ -90,16 +86,14 @@ pub extern "C" fn stipeflute_encode_page(
     reply_codec::lay_page(page, answer)
 }
 
-#[unsafe(no_mangle)]
-pub extern "C" fn stipeflute_decode_page(page: &[u8], answer: &mut [u8]) -> u32
+pub fn stipeflute_decode_page(page: &[u8], answer: &mut [u8]) -> u32
     ensures value { result ≡ row_reply 9 answer.old (laid metadata_row (decoded page.now)) }
     ensures lent { answer.new ≡ row_after 9 answer.old (laid metadata_row (decoded page.now)) }
 {
     reply_codec::lay_metadata(blackbox::decode_page(page), answer)
 }
 
-#[unsafe(no_mangle)]
-pub extern "C" fn stipeflute_record_from_page(page: &[u8], index: u32, answer: &mut [u8]) -> u32
+pub fn stipeflute_record_from_page(page: &[u8], index: u32, answer: &mut [u8]) -> u32
     ensures value { result ≡ row_reply 48 answer.old (laid record_bytes (record_from_page page.now index)) }
     ensures lent { answer.new ≡ row_after 48 answer.old (laid record_bytes (record_from_page page.now index)) }
 {
@@ -107,8 +101,7 @@ pub extern "C" fn stipeflute_record_from_page(page: &[u8], index: u32, answer: &
     reply_codec::lay_record(record, answer)
 }
 
-#[unsafe(no_mangle)]
-pub extern "C" fn stipeflute_scratch_test_page(answer: &mut [u8]) -> u32
+pub fn stipeflute_scratch_test_page(answer: &mut [u8]) -> u32
     ensures value { result ≡ row_reply 256 answer.old (gives scratch_page) }
     ensures lent { answer.new ≡ row_after 256 answer.old (gives scratch_page) }
 {

@@ -5,8 +5,7 @@ ghost use Rattle.store.specs.Store.{read_told, after_read, program_told, after_p
 ghost use Rattle.reply.specs.Reply.{reply_of, row_reply, row_after, laid, number_row, option_row};
 ghost use Rattle.reply_codec.specs.CodecRows.{layout_row};
 
-#[unsafe(no_mangle)]
-pub extern "C" fn stipeflute_storage_layout(capacity_bytes: u32, answer: &mut [u8]) -> u32
+pub fn stipeflute_storage_layout(capacity_bytes: u32, answer: &mut [u8]) -> u32
     ensures value { result ≡ row_reply 20 answer.old (laid layout_row (layout_of capacity_bytes)) }
     ensures lent { answer.new ≡ row_after 20 answer.old (laid layout_row (layout_of capacity_bytes)) }
 {
@@ -14,8 +13,7 @@ pub extern "C" fn stipeflute_storage_layout(capacity_bytes: u32, answer: &mut [u
     reply_codec::lay_layout(made, answer)
 }
 
-#[unsafe(no_mangle)]
-pub extern "C" fn stipeflute_log_page_address(
+pub fn stipeflute_log_page_address(
     capacity_bytes: u32,
     page_index: u32,
     answer: &mut [u8],
@@ -26,24 +24,21 @@ pub extern "C" fn stipeflute_log_page_address(
     reply_codec::lay_address(layout::log_page_address(capacity_bytes, page_index), answer)
 }
 
-#[unsafe(no_mangle)]
-pub extern "C" fn stipeflute_log_sector_count(capacity_bytes: u32, answer: &mut [u8]) -> u32
+pub fn stipeflute_log_sector_count(capacity_bytes: u32, answer: &mut [u8]) -> u32
     ensures value { result ≡ row_reply 4 answer.old (laid number_row (log_sector_count capacity_bytes)) }
     ensures lent { answer.new ≡ row_after 4 answer.old (laid number_row (log_sector_count capacity_bytes)) }
 {
     reply_codec::lay_number(layout::log_sector_count(capacity_bytes), answer)
 }
 
-#[unsafe(no_mangle)]
-pub extern "C" fn stipeflute_sync_ledger_address(capacity_bytes: u32, answer: &mut [u8]) -> u32
+pub fn stipeflute_sync_ledger_address(capacity_bytes: u32, answer: &mut [u8]) -> u32
     ensures value { result ≡ row_reply 4 answer.old (laid number_row (sync_ledger_address capacity_bytes)) }
     ensures lent { answer.new ≡ row_after 4 answer.old (laid number_row (sync_ledger_address capacity_bytes)) }
 {
     reply_codec::lay_number(layout::sync_ledger_address(capacity_bytes), answer)
 }
 
-#[unsafe(no_mangle)]
-pub extern "C" fn stipeflute_log_erase_sector_address(
+pub fn stipeflute_log_erase_sector_address(
     capacity_bytes: u32,
     step: u32,
     answer: &mut [u8],
@@ -57,8 +52,7 @@ pub extern "C" fn stipeflute_log_erase_sector_address(
     )
 }
 
-#[unsafe(no_mangle)]
-pub extern "C" fn stipeflute_read(
+pub fn stipeflute_read(
     capacity_bytes: u32,
     image: &[u8],
     faults: &[u8],
@@ -71,8 +65,7 @@ pub extern "C" fn stipeflute_read(
     reply::done(store::read(capacity_bytes, image, faults, address, output))
 }
 
-#[unsafe(no_mangle)]
-pub extern "C" fn stipeflute_page_program(
+pub fn stipeflute_page_program(
     capacity_bytes: u32,
     image: &mut [u8],
     address: u32,
@@ -86,8 +79,7 @@ pub extern "C" fn stipeflute_page_program(
     reply::done(store::page_program(capacity_bytes, image, address, target, keep, reply))
 }
 
-#[unsafe(no_mangle)]
-pub extern "C" fn stipeflute_erase_sector_4k(
+pub fn stipeflute_erase_sector_4k(
     capacity_bytes: u32,
     image: &mut [u8],
     address: u32,

@@ -7,8 +7,7 @@ ghost use Rattle.log_search.specs.Search.{found_flight, older_flight};
 ghost use Rattle.reply.specs.Reply.{row_reply, row_after, laid};
 ghost use Rattle.reply_log.specs.LogRows.{scan_row, reason_row, flight_row, found_row};
 
-#[unsafe(no_mangle)]
-pub extern "C" fn stipeflute_scan_log(
+pub fn stipeflute_scan_log(
     capacity_bytes: u32,
     image: &[u8],
     faults: &[u8],
@@ -20,8 +19,7 @@ pub extern "C" fn stipeflute_scan_log(
     reply_log::lay_scan(records::scan_log(capacity_bytes, image, faults), answer)
 }
 
-#[unsafe(no_mangle)]
-pub extern "C" fn stipeflute_explain(
+pub fn stipeflute_explain(
     capacity_bytes: u32,
     image: &[u8],
     faults: &[u8],
@@ -33,8 +31,7 @@ pub extern "C" fn stipeflute_explain(
     reply_log::lay_explained(records::explain(capacity_bytes, image, faults), answer)
 }
 
-#[unsafe(no_mangle)]
-pub extern "C" fn stipeflute_page_flight_id(
+pub fn stipeflute_page_flight_id(
     capacity_bytes: u32,
     image: &[u8],
     faults: &[u8],
@@ -50,8 +47,7 @@ pub extern "C" fn stipeflute_page_flight_id(
     )
 }
 
-#[unsafe(no_mangle)]
-pub extern "C" fn stipeflute_find_flight(
+pub fn stipeflute_find_flight(
     capacity_bytes: u32,
     image: &[u8],
     faults: &[u8],
@@ -68,8 +64,7 @@ pub extern "C" fn stipeflute_find_flight(
     )
 }
 
-#[unsafe(no_mangle)]
-pub extern "C" fn stipeflute_older_flight(
+pub fn stipeflute_older_flight(
     capacity_bytes: u32,
     image: &[u8],
     faults: &[u8],

@@ -5,8 +5,7 @@ ghost use Rattle.log_sync.specs.Sync.{all_synced, ack_checked};
 ghost use Rattle.reply.specs.Reply.{reply_of, row_reply, row_after, laid};
 ghost use Rattle.reply_log.specs.LogRows.{flag_row, header_row, bit_row, step_row, step_of, recording_of};
 
-#[unsafe(no_mangle)]
-pub extern "C" fn stipeflute_read_header(
+pub fn stipeflute_read_header(
     capacity_bytes: u32,
     image: &[u8],
     faults: &[u8],
@@ -21,8 +20,7 @@ pub extern "C" fn stipeflute_read_header(
     )
 }
 
-#[unsafe(no_mangle)]
-pub extern "C" fn stipeflute_bit_location(
+pub fn stipeflute_bit_location(
     capacity_bytes: u32,
     flight_id: u32,
     answer: &mut [u8],
@@ -33,8 +31,7 @@ pub extern "C" fn stipeflute_bit_location(
     reply_log::lay_bit(sync_ledger::bit_location(capacity_bytes, flight_id), answer)
 }
 
-#[unsafe(no_mangle)]
-pub extern "C" fn stipeflute_is_synced(
+pub fn stipeflute_is_synced(
     capacity_bytes: u32,
     image: &[u8],
     faults: &[u8],
@@ -50,8 +47,7 @@ pub extern "C" fn stipeflute_is_synced(
     )
 }
 
-#[unsafe(no_mangle)]
-pub extern "C" fn stipeflute_next_mark_step(
+pub fn stipeflute_next_mark_step(
     capacity_bytes: u32,
     image: &[u8],
     faults: &[u8],
@@ -67,8 +63,7 @@ pub extern "C" fn stipeflute_next_mark_step(
     )
 }
 
-#[unsafe(no_mangle)]
-pub extern "C" fn stipeflute_start_mark_step(
+pub fn stipeflute_start_mark_step(
     capacity_bytes: u32,
     image: &mut [u8],
     kind: u8,
@@ -84,8 +79,7 @@ pub extern "C" fn stipeflute_start_mark_step(
     reply::done(sync_ledger::start_mark_step(capacity_bytes, image, step, keep, reply))
 }
 
-#[unsafe(no_mangle)]
-pub extern "C" fn stipeflute_all_synced(
+pub fn stipeflute_all_synced(
     capacity_bytes: u32,
     image: &[u8],
     faults: &[u8],
@@ -104,8 +98,7 @@ pub extern "C" fn stipeflute_all_synced(
     )
 }
 
-#[unsafe(no_mangle)]
-pub extern "C" fn stipeflute_check_ack(
+pub fn stipeflute_check_ack(
     capacity_bytes: u32,
     image: &[u8],
     faults: &[u8],

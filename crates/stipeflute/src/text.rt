@@ -7,8 +7,7 @@ ghost use Rattle.reply.specs.Reply.{row_reply, row_after, laid};
 ghost use Rattle.reply_log.specs.LogRows.{recording_of};
 ghost use Rattle.reply_text.specs.TextRows.{told_list, list_row, text_row, lines_of};
 
-#[unsafe(no_mangle)]
-pub extern "C" fn stipeflute_unsynced_flights(
+pub fn stipeflute_unsynced_flights(
     capacity_bytes: u32,
     image: &[u8],
     faults: &[u8],
@@ -25,8 +24,7 @@ pub extern "C" fn stipeflute_unsynced_flights(
     reply_text::lay_list(list, answer)
 }
 
-#[unsafe(no_mangle)]
-pub extern "C" fn stipeflute_unsynced_lines(
+pub fn stipeflute_unsynced_lines(
     flights: &[u8],
     count: u32,
     more: u8,
@@ -38,8 +36,7 @@ pub extern "C" fn stipeflute_unsynced_lines(
     reply_text::lay_unsynced_lines(flights, count, more, answer)
 }
 
-#[unsafe(no_mangle)]
-pub extern "C" fn stipeflute_ack_response(number: u8, answer: &mut [u8]) -> u32
+pub fn stipeflute_ack_response(number: u8, answer: &mut [u8]) -> u32
     ensures value { result ≡ row_reply 60 answer.old (gives (text_row 56 (ack_text number))) }
     ensures lent { answer.new ≡ row_after 60 answer.old (gives (text_row 56 (ack_text number))) }
 {

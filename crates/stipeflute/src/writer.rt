@@ -3,8 +3,7 @@ ghost use Rattle.std.specs.Prelude.{◌≡◌};
 ghost use Rattle.rig.specs.Rig.{play_told, after_play, output_after};
 ghost use Rattle.reply.specs.Reply.{reply_of};
 
-#[unsafe(no_mangle)]
-pub extern "C" fn stipeflute_rig(
+pub fn stipeflute_rig(
     capacity_bytes: u32,
     image: &mut [u8],
     script: &[u8],

@@ -7,7 +7,7 @@ pub loop-sequence-init : goal.loop-sequence-init
 loop-sequence-init c = (omega arith, refl)
 
 pub loop-sequence-preserved : goal.loop-sequence-preserved
-loop-sequence-preserved c = (omega arith, c.put_page.auto.0 ∙ c.loop-sequence.invariant.1)
+loop-sequence-preserved c = (omega arith, c.put_page.auto.image ∙ c.loop-sequence.invariant.1)
 
 pub shape_of-image : goal.shape_of-image
 shape_of-image c = c.loop-sequence.invariant.1
