@@ -13,11 +13,7 @@ pub fn stipeflute_storage_layout(capacity_bytes: u32, answer: &mut [u8]) -> u32
     reply_codec::lay_layout(made, answer)
 }
 
-pub fn stipeflute_log_page_address(
-    capacity_bytes: u32,
-    page_index: u32,
-    answer: &mut [u8],
-) -> u32
+pub fn stipeflute_log_page_address(capacity_bytes: u32, page_index: u32, answer: &mut [u8]) -> u32
     ensures value { result ≡ row_reply 5 answer.old (laid option_row (log_page_address capacity_bytes page_index)) }
     ensures lent { answer.new ≡ row_after 5 answer.old (laid option_row (log_page_address capacity_bytes page_index)) }
 {
@@ -38,11 +34,7 @@ pub fn stipeflute_sync_ledger_address(capacity_bytes: u32, answer: &mut [u8]) ->
     reply_codec::lay_number(layout::sync_ledger_address(capacity_bytes), answer)
 }
 
-pub fn stipeflute_log_erase_sector_address(
-    capacity_bytes: u32,
-    step: u32,
-    answer: &mut [u8],
-) -> u32
+pub fn stipeflute_log_erase_sector_address(capacity_bytes: u32, step: u32, answer: &mut [u8]) -> u32
     ensures value { result ≡ row_reply 5 answer.old (laid option_row (log_erase_sector_address capacity_bytes step)) }
     ensures lent { answer.new ≡ row_after 5 answer.old (laid option_row (log_erase_sector_address capacity_bytes step)) }
 {

@@ -20,11 +20,7 @@ pub fn stipeflute_read_header(
     )
 }
 
-pub fn stipeflute_bit_location(
-    capacity_bytes: u32,
-    flight_id: u32,
-    answer: &mut [u8],
-) -> u32
+pub fn stipeflute_bit_location(capacity_bytes: u32, flight_id: u32, answer: &mut [u8]) -> u32
     ensures value { result ≡ row_reply 5 answer.old (laid bit_row (bit_location capacity_bytes flight_id)) }
     ensures lent { answer.new ≡ row_after 5 answer.old (laid bit_row (bit_location capacity_bytes flight_id)) }
 {

@@ -24,12 +24,7 @@ pub fn stipeflute_unsynced_flights(
     reply_text::lay_list(list, answer)
 }
 
-pub fn stipeflute_unsynced_lines(
-    flights: &[u8],
-    count: u32,
-    more: u8,
-    answer: &mut [u8],
-) -> u32
+pub fn stipeflute_unsynced_lines(flights: &[u8], count: u32, more: u8, answer: &mut [u8]) -> u32
     ensures value { result ≡ row_reply 476 answer.old (laid (text_row 472) (lines_of flights.now count more)) }
     ensures lent { answer.new ≡ row_after 476 answer.old (laid (text_row 472) (lines_of flights.now count more)) }
 {
