@@ -2,11 +2,11 @@
 -- tests in front of it. Assumes nothing.
 use Prim.Native.Nat.{ℕ, suc, ◌+◌, ◌-◌, ◌*◌, ◌≤◌, ◌<◌}
 use mathlib.Core.Path.{◌≡◌, refl, sym, ap, ap₂, ◌∙◌}
-use mathlib.Core.Bool.{Bool, true, false, not}
+use mathlib.Core.Bool.{Bool, true, false}
 use mathlib.Core.List.{List, [], ◌∷◌, ◌++◌, append_assoc, append-nil}
 use native.Mathlib.Omega.{arith}
 use native.Mathlib.Numerals.{add-one}
-use borrow.Author.Tests.{eq-eqb, ne_eqb, not-true, not-false}
+use borrow.Author.Tests.{eq-eqb, ne_eqb}
 use lib.ListN.{length, take, drop, length-append}
 use lib.Seq.{take_all, length-take-le, take-length, take_at}
 use Rattle.laws.specs.Answers.{Answer, gives, refuses, refusal, told_done}
@@ -134,8 +134,8 @@ pub record Ends (a says : Answer (Unit {0})) (image picture output tale : List �
   pub tells : output ≡ tale
 
 pub ends : {a says : Answer (Unit {0})} {image picture output tale : List ℕ} → Ends a says image picture output tale
-    → (a ≡ says) × ((image ≡ picture) × (output ≡ tale))
-ends e = (e.answer, (e.left, e.tells))
+    → record { result_value : a ≡ says; image_after : image ≡ picture; output_after : output ≡ tale }
+ends e = record { result_value = e.answer; image_after = e.left; output_after = e.tells }
 
 module _ (c : ℕ) (image script output : List ℕ) where
   abbrev tested : (A : Type 0) → Answer A → Answer A

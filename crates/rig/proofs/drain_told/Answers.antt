@@ -1,5 +1,4 @@
 -- `rig::drain_told` meets its contract. Assumes nothing.
-use borrow.Author.Rules.{rules}
 use Rattle.rig.proofs.drain_told.Goals as goal
 
 pub returns : goal.returns

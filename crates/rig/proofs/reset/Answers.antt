@@ -1,5 +1,4 @@
 -- `rig::reset` meets its contract. Assumes nothing.
-use borrow.Author.Rules.{rules}
 use Rattle.rig.proofs.reset.Goals as goal
 
 pub returns : goal.returns

@@ -1,5 +1,4 @@
 -- `rig::tells_of` meets its contract: its stores are those of the law. Assumes nothing.
-use borrow.Author.Rules.{rules}
 use Rattle.rig.proofs.Telling.{tells_made}
 use Rattle.rig.proofs.tells_of.Goals as goal
 

@@ -1,5 +1,4 @@
 -- `rig::write_told` meets its contract. Assumes nothing.
-use borrow.Author.Rules.{rules}
 use Rattle.rig.proofs.write_told.Goals as goal
 
 pub returns : goal.returns
