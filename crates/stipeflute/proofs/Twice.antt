@@ -11,8 +11,9 @@ pub record Leaves (r reply : ℕ) (one one' two two' : List ℕ) : Type 0 where
   pub first : one ≡ one'
   pub second : two ≡ two'
 
-pub leaves : {r reply : ℕ} {one one' two two' : List ℕ} → Leaves r reply one one' two two' → (r ≡ reply) × ((one ≡ one') × (two ≡ two'))
-leaves h = (h.returned, (h.first, h.second))
+pub leaves : {r reply : ℕ} {one one' two two' : List ℕ} → Leaves r reply one one' two two'
+    → record { value : r ≡ reply; image_after : one ≡ one'; output_after : two ≡ two' }
+leaves h = record { value = h.returned; image_after = h.first; output_after = h.second }
 
 pub both_through : {A : Type 0} (told other : Answer A) (r : ℕ) (one one' two two' : List ℕ) → told ≡ other → r ≡ reply_of told → one ≡ one' → two ≡ two'
     → Leaves r (reply_of other) one one' two two'
