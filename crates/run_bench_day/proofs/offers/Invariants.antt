@@ -9,4 +9,4 @@ abbrev pub invariant-loop-record : goal.invariant-loop-record
 invariant-loop-record l = length l.script ≡ length l.initial.script
 
 abbrev pub decreases-loop-record : goal.decreases-loop-record
-decreases-loop-record l = l.to - «record»
+decreases-loop-record l = l.to - l.«record»

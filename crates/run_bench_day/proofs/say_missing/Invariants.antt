@@ -7,4 +7,4 @@ abbrev pub invariant-loop-record : goal.invariant-loop-record
 invariant-loop-record l = Unit {0}
 
 abbrev pub decreases-loop-record : goal.decreases-loop-record
-decreases-loop-record l = 256 - «record»
+decreases-loop-record l = 256 - l.«record»
