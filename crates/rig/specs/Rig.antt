@@ -138,8 +138,8 @@ tells capacity (o ∷ os) b image =
 
 -- "Order: 5, then 17": an image that has not its capacity's length, a malformed script, an output that has not 40 bytes for each row
 unfoldable pub on_script : {A : Type 0} → ℕ → ℕ → List ℕ → ℕ → Answer A → Answer A
-on_script capacity image_length script outputLength rest =
-    on_image capacity image_length (must (is_script script) bad_length (must (eqb outputLength (rows_in script * 40)) bad_length rest))
+on_script capacity image_length script output_length rest =
+    on_image capacity image_length (must (is_script script) bad_length (must (eqb output_length (rows_in script * 40)) bad_length rest))
 
 -- what the player answers, and the image and the output that it leaves, which stay as they were where it is refused
 abbrev pub play_told : ℕ → List ℕ → List ℕ → List ℕ → Answer (Unit {0})

@@ -22,7 +22,7 @@ on_lengths capacity image_length other wanted rest = on_image capacity image_len
 
 -- "fault bytes not one per 256"
 abbrev pub on_store : {A : Type 0} → ℕ → ℕ → ℕ → Answer A → Answer A
-on_store capacity image_length faultsLength rest = on_lengths capacity image_length faultsLength (capacity / 256) rest
+on_store capacity image_length faults_length rest = on_lengths capacity image_length faults_length (capacity / 256) rest
 
 -- "a page or keep mask not 256 bytes"
 abbrev pub on_mask : {A : Type 0} → ℕ → ℕ → ℕ → Answer A → Answer A
