@@ -1,6 +1,6 @@
 -- A text that grows in its array stays a text with 0x00 behind it; the lines made so, piece by piece, are those of the specs.
 -- Assumes nothing.
-use Prim.Native.Nat.{ℕ, ◌+◌, ◌-◌, ◌^◌, ◌≤◌, ◌<◌}
+use Prim.Native.Nat.{ℕ, ◌+◌, ◌^◌, ◌≤◌, ◌<◌}
 use mathlib.Core.Path.{◌≡◌, refl, sym, ap, ap₂, ◌∙◌}
 use mathlib.Core.Bool.{Bool, true, false}
 use mathlib.Core.List.{List, [], ◌∷◌, ◌++◌}
@@ -8,7 +8,6 @@ use native.Mathlib.Omega.{arith}
 use borrow.Author.Tests.{le-leb, lt-leb}
 use lib.ListN.{length, length-append}
 use Rattle.words.specs.Words.{ascii, placed}
-use Rattle.blackbox.specs.Page.{padded}
 use Rattle.blackbox.proofs.Laying.{padded_more}
 use Rattle.log_search.specs.declared.StoredFlight.{StoredFlight}
 use Rattle.digits.specs.Decimal.{digit, decimal_of}

@@ -7,7 +7,7 @@ use mathlib.Core.Logic.{◌⊎◌, inl, inr}
 use mathlib.Core.List.{List, [], ◌∷◌, ◌++◌, append-nil}
 use Rattle.power.specs.Pages.{Each}
 use Rattle.power.specs.Writer.{Writer}
-use Rattle.power.specs.Calls.{Next, Pass, drain}
+use Rattle.power.specs.Calls.{Next, Pass}
 use Rattle.power.specs.Life.{Call, Device}
 use Rattle.power.specs.Life as Life
 use Rattle.power.specs.Reports.{mark_first, LoggedExactly}

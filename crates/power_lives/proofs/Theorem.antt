@@ -26,7 +26,6 @@ use Rattle.store.specs.Store.{no_faults, leaves}
 use Rattle.store.proofs.Checks.{on_image_lem}
 use Rattle.assembler.specs.Assembler as Assembler
 use Rattle.queue.specs.Queue.{empty}
-use Rattle.records.specs.Scan.{scanned}
 use Rattle.records.specs.declared.Scan.{Scan}
 use Rattle.blackbox.specs.declared.FlightRecord.{FlightRecord}
 use Rattle.log_state.specs.Writer.{fresh}

@@ -15,8 +15,7 @@ use Rattle.layout.specs.Layout.{log_start}
 use Rattle.blackbox.specs.declared.FlightRecord.{FlightRecord}
 use Rattle.queue.specs.declared.Dequeued.{Dequeued}
 use Rattle.queue.proofs.Laws.{none_leaves, one_leaves}
-use Rattle.assembler.specs.Assembler.{stopped}
-use Rattle.log_state.specs.Writer.{with_assembler, ended, logged}
+use Rattle.log_state.specs.Writer.{with_assembler, ended}
 use Rattle.log_state.specs.WellFormed.{SoundWriter}
 use Rattle.log_state.specs.declared.Logged.{Logged}
 use Rattle.log_writer.specs.Pass.{counted, turn, turn_image, turns, turns_image, dropping_it, dropping, on_empty_queue, drain_pass, drain_image}

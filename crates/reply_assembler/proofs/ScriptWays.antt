@@ -10,7 +10,7 @@ use lib.Dec.{eqb}
 use lib.ListN.{length, get_or, take, drop}
 use lib.Seq.{drop-drop}
 use Rattle.laws.specs.Refusals.{bad_length}
-use Rattle.laws.specs.Answers.{Answer, refusal}
+use Rattle.laws.specs.Answers.{refusal}
 use Rattle.laws.specs.declared.Refusal.{Refusal}
 use Rattle.words.specs.Words.{le_bytes, u32_at}
 use Rattle.blackbox.specs.Record.{record_of}

@@ -1,6 +1,6 @@
 -- A script of the assembler's calls, played from a fresh assembler, and what the last of them answers. Document 01, "States come from
 -- these calls alone": so a script, and not a state, is what a C call is handed.
-use Rattle.std.specs.Prelude.{ℕ, zero, suc, ◌+◌, ◌/◌, ◌%◌, Bool, true, false, cond, List, ◌∷◌, ◌++◌, eqb, length, get_or, take, drop}
+use Rattle.std.specs.Prelude.{ℕ, zero, suc, ◌/◌, ◌%◌, Bool, true, false, cond, List, ◌∷◌, ◌++◌, eqb, length, get_or, take, drop}
 use Rattle.std.proofs.Math.Option.{Option, none, some}
 use Rattle.laws.specs.Refusals.{bad_length}
 use Rattle.laws.specs.Answers.{Answer, must}

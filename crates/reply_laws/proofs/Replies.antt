@@ -17,7 +17,7 @@ use Rattle.blackbox.specs.declared.FlightRecord.{FlightRecord}
 use Rattle.assembler.specs.Assembler.{fresh, started, marked, laid as laid_row, answered, refused_as, encoded_into, finishing, filled, pushed, unrecorded, stopped, taken, unfinished_flight}
 use Rattle.assembler.specs.declared.PageAssembler.{PageAssembler}
 use Rattle.assembler.specs.declared.AssembleAnswer.{AssembleAnswer}
-use Rattle.reply.specs.Reply.{is_set, laid, rowed, held_as}
+use Rattle.reply.specs.Reply.{is_set, rowed, held_as}
 use Rattle.reply_assembler.specs.Script.{flagged, assembled, took, found_unfinished, play_row, play_from, play_script, last_played}
 use Rattle.reply_assembler.specs.declared.Played.{Played}
 use Rattle.reply_laws.specs.Laws.{Anything, Proper, RowProper, ZeroGives, EveryAnswer}

@@ -6,7 +6,7 @@ use mathlib.Core.Option.{Option, none, some}
 use mathlib.Core.List.{List}
 use borrow.Author.Tests.{eq-eqb, ne_eqb}
 use lib.ListN.{length}
-use Rattle.laws.specs.Answers.{Answer, gives, refuses, told_yes_no}
+use Rattle.laws.specs.Answers.{gives, refuses, told_yes_no}
 use Rattle.laws.specs.declared.Refusal.{Refusal}
 use Rattle.words.specs.Words.{le_bytes}
 use Rattle.records.specs.Pages.{told_flight}

@@ -6,11 +6,11 @@ use mathlib.Core.List.{List, [], ◌∷◌, ◌++◌, map, map-append}
 use native.Mathlib.Numerals.{add-one}
 use native.Mathlib.Omega.{arith}
 use borrow.Author.Tests.{eq-eqb, ne_eqb}
-use lib.Dec.{eqb, leb}
+use lib.Dec.{leb}
 use lib.ListN.{length, get_or, take, length-map}
 use lib.Seq.{take-suc, length-take-le, take-length}
 use Rattle.laws.specs.Refusals.{bad_length}
-use Rattle.laws.specs.Answers.{Answer, gives, refuses, refusal, must}
+use Rattle.laws.specs.Answers.{gives, refuses, refusal, must}
 use Rattle.laws.specs.declared.Refusal.{Refusal}
 use Rattle.words.specs.Words.{le_bytes, placed}
 use Rattle.blackbox.specs.Page.{joined, EachLong, padded}

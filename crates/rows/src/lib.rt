@@ -1,7 +1,6 @@
 // The unsynced list in a lent row of eight flight entries: what log_sync answers by value is written to the caller's own row, and the
 // entries beyond the count stay. A row that isn't eight long and a count above eight are refused 17, and then the row stays whole.
-// A caller that holds its row by value calls `filled_row`, and needs no proof by hand. `filled_row` and `fill_row` are proved by a walk of
-// their code, since a slice of structs is lent.
+// A caller that holds its row by value calls `filled_row`.
 #![tactic(auto)]
 
 ghost use Rattle.std.specs.Prelude.{◌≡◌, length};

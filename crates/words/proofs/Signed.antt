@@ -7,7 +7,7 @@ use lib.ListN.{get_or}
 use lib.IntN.{ℤ, pos, negsuc}
 use lib.Dec.{lit<}
 use mir.Syntax.{w16}
-use mir.Val.{Val, Fits, SFits, to_z, of_z}
+use mir.Val.{Val, SFits, to_z, of_z}
 use mir.Facts.{to_z-of_z, of_z-to_z, to_z_pos, to_z-neg, Fits-of_z}
 use mir.ValLaws.{to_z-Fits}
 use denote.Array.{each}

@@ -1,8 +1,4 @@
 -- `crc32::by_bytes` meets its contract. The loop's invariant: the bytes that are left lead to the whole message's remainder. Assumes nothing.
-use mathlib.Core.Path.{◌≡◌}
-use Prim.Native.Nat.{◌-◌, ◌≤◌}
-use lib.ListN.{length, drop}
-use Rattle.crc32.specs.Crc.{remainder}
 use Rattle.crc32.proofs.Remainders.{byte_turn, bytes_end}
 use borrow.Author.Rules.{rules}
 use Rattle.crc32.proofs.by_bytes.Goals as goal

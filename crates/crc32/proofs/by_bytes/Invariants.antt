@@ -3,8 +3,6 @@ use mathlib.Core.Path.{◌≡◌}
 use Prim.Native.Nat.{◌-◌, ◌≤◌}
 use lib.ListN.{length, drop}
 use Rattle.crc32.specs.Crc.{remainder}
-use Rattle.crc32.proofs.Remainders.{byte_turn, bytes_end}
-use borrow.Author.Rules.{rules}
 use Rattle.crc32.proofs.by_bytes.Given as goal
 
 abbrev pub invariant-loop-i : goal.invariant-loop-i

@@ -1,12 +1,8 @@
 -- `crc32::by_words` meets its contract. The loop's invariant: the bytes that are left lead to the whole message's remainder. Assumes nothing.
 use mathlib.Core.Path.{◌≡◌}
-use Prim.Native.Nat.{◌+◌, ◌-◌, ◌*◌, ◌/◌, ◌≤◌}
-use native.Mathlib.Omega.{arith}
+use Prim.Native.Nat.{◌-◌, ◌*◌, ◌/◌, ◌≤◌}
 use lib.ListN.{length, drop}
-use Rattle.words.specs.Words.{Bytes}
 use Rattle.crc32.specs.Crc.{remainder}
-use Rattle.crc32.proofs.Linear.{word_turn, words_end}
-use borrow.Author.Rules.{rules}
 use Rattle.crc32.proofs.by_words.Given as goal
 
 abbrev pub invariant-loop-i : goal.invariant-loop-i

@@ -1,9 +1,7 @@
 -- `crc32::byte_step` meets its contract. The loop's invariant: the steps that are left lead to the byte's end. Assumes nothing.
-use mathlib.Core.Path.{◌≡◌, sym, ap, ◌∙◌}
-use Prim.Native.Nat.{ℕ, suc, ◌+◌, ◌-◌, ◌≤◌}
-use Rattle.crc32.specs.Crc.{bit_step, bit_steps, byte_step}
-use borrow.Author.Rules.{rules}
-use native.Mathlib.Omega.{arith}
+use mathlib.Core.Path.{◌≡◌}
+use Prim.Native.Nat.{◌-◌, ◌≤◌}
+use Rattle.crc32.specs.Crc.{bit_steps, byte_step}
 use Rattle.crc32.proofs.byte_step.Given as goal
 
 abbrev pub invariant-loop-k : goal.invariant-loop-k

@@ -1,7 +1,6 @@
 -- `crc32::half` meets its contract, byte by byte. Assumes nothing.
 use native.Mathlib.Omega.{arith}
 use Rattle.words.proofs.Numbers.{u32_bytes}
-use borrow.Author.Rules.{rules}
 use Rattle.crc32.proofs.half.Goals as goal
 
 pub returns : goal.returns

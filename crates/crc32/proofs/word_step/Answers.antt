@@ -1,9 +1,7 @@
 -- `crc32::word_step` meets its contract. The loop's invariant: the digits so far are a number of their own, and bit steps are linear. Assumes nothing.
 use mathlib.Core.Path.{◌≡◌}
-use Prim.Native.Nat.{◌≤◌}
 use native.Mathlib.Omega.{arith}
-use Rattle.crc32.specs.Crc.{bit_steps}
-use Rattle.crc32.proofs.Linear.{above, none_above, digit_down, all_above}
+use Rattle.crc32.proofs.Linear.{none_above, digit_down, all_above}
 use borrow.Author.Rules.{rules}
 use Rattle.crc32.proofs.word_step.Goals as goal
 

@@ -1,7 +1,6 @@
 -- `digits::decimal` meets its contract: the digits laid from the end, moved to the front. Assumes nothing.
 use native.Mathlib.Omega.{arith}
 use Rattle.digits.proofs.Back.{moved}
-use borrow.Author.Rules.{rules}
 use Rattle.digits.proofs.decimal.Goals as goal
 
 pub slice_bounds-put_bytes-end-2 : goal.slice_bounds-put_bytes-end-2

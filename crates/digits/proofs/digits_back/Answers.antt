@@ -1,12 +1,8 @@
 -- `digits::digits_back` meets its contract. The loop's invariant: what is ahead of the digits laid, and these, are the number's
 -- notation. Assumes nothing.
-use Prim.Native.Nat.{◌≤◌}
-use mathlib.Core.Path.{◌≡◌, refl}
-use mathlib.Core.List.{◌++◌}
-use lib.ListN.{length, drop, length-set}
-use Rattle.digits.specs.Decimal.{decimal_of}
-use Rattle.digits.proofs.Back.{ahead, laid_first, laid_next, laid_all, place_left}
-use borrow.Author.Rules.{rules}
+use mathlib.Core.Path.{refl}
+use lib.ListN.{length-set}
+use Rattle.digits.proofs.Back.{laid_first, laid_next, laid_all, place_left}
 use native.Mathlib.Omega.{arith}
 use Rattle.digits.proofs.digits_back.Goals as goal
 

@@ -1,13 +1,11 @@
 -- `digits::digits_back` meets its contract. The loop's invariant: what is ahead of the digits laid, and these, are the number's
 -- notation. Assumes nothing.
 use Prim.Native.Nat.{◌≤◌}
-use mathlib.Core.Path.{◌≡◌, refl}
+use mathlib.Core.Path.{◌≡◌}
 use mathlib.Core.List.{◌++◌}
-use lib.ListN.{length, drop, length-set}
+use lib.ListN.{length, drop}
 use Rattle.digits.specs.Decimal.{decimal_of}
-use Rattle.digits.proofs.Back.{ahead, laid_first, laid_next, laid_all, place_left}
-use borrow.Author.Rules.{rules}
-use native.Mathlib.Omega.{arith}
+use Rattle.digits.proofs.Back.{ahead}
 use Rattle.digits.proofs.digits_back.Given as goal
 
 abbrev pub invariant-loop-rest : goal.invariant-loop-rest

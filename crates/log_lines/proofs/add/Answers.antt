@@ -1,7 +1,6 @@
 -- `log_lines::add` meets its contract, by the laws of growing lines. Assumes nothing.
 use native.Mathlib.Omega.{arith}
 use Rattle.log_lines.proofs.Listing.{lines_short, lines_fit}
-use borrow.Author.Rules.{rules}
 use Rattle.log_lines.proofs.add.Goals as goal
 
 pub returns-then-at-gt-LINES_LEN : goal.returns-then-at-gt-LINES_LEN

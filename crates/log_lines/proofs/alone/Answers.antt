@@ -2,7 +2,6 @@
 use mathlib.Core.Path.{ap, ◌∙◌}
 use Rattle.log_lines.specs.Lines.{grown}
 use Rattle.log_lines.specs.declared.Line.{Line}
-use borrow.Author.Rules.{rules}
 use Rattle.log_lines.proofs.alone.Goals as goal
 
 pub returns : goal.returns

@@ -1,14 +1,9 @@
 -- `log_lines::listed` meets its contract. The loop's invariant: the lines are the count line and those of the first i flights, and at
 -- most 24 bytes and 56 for each of these. Assumes nothing.
-use Prim.Native.Nat.{◌+◌, ◌-◌, ◌*◌, ◌≤◌}
-use mathlib.Core.Path.{◌≡◌}
-use lib.ListN.{length}
-use Rattle.laws.specs.Answers.{gives}
-use Rattle.log_lines.specs.Lines.{count_line, lines_answer}
+use Rattle.log_lines.specs.Lines.{count_line}
 use native.Mathlib.Omega.{arith}
 use Rattle.log_lines.proofs.Growing.{count_short}
-use Rattle.log_lines.proofs.Listing.{listing, listed_first, listed_next, listed_all, line_room}
-use borrow.Author.Rules.{rules}
+use Rattle.log_lines.proofs.Listing.{listed_first, listed_next, listed_all, line_room}
 use Rattle.log_lines.proofs.listed.Goals as goal
 
 pub add-lines-requires : goal.add-lines-requires

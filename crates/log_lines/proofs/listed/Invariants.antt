@@ -4,11 +4,8 @@ use Prim.Native.Nat.{◌+◌, ◌-◌, ◌*◌, ◌≤◌}
 use mathlib.Core.Path.{◌≡◌}
 use lib.ListN.{length}
 use Rattle.laws.specs.Answers.{gives}
-use Rattle.log_lines.specs.Lines.{count_line, lines_answer}
-use native.Mathlib.Omega.{arith}
-use Rattle.log_lines.proofs.Growing.{count_short}
-use Rattle.log_lines.proofs.Listing.{listing, listed_first, listed_next, listed_all, line_room}
-use borrow.Author.Rules.{rules}
+use Rattle.log_lines.specs.Lines.{lines_answer}
+use Rattle.log_lines.proofs.Listing.{listing}
 use Rattle.log_lines.proofs.listed.Given as goal
 
 abbrev pub invariant-loop-i : goal.invariant-loop-i

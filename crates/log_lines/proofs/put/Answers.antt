@@ -1,7 +1,6 @@
 -- `log_lines::put` meets its contract, by the laws of a growing line. Assumes nothing.
 use Rattle.log_lines.proofs.Growing.{grown_short, grown_fits}
 use native.Mathlib.Omega.{arith}
-use borrow.Author.Rules.{rules}
 use Rattle.log_lines.proofs.put.Goals as goal
 
 pub returns-then-len-gt-LINE_LEN : goal.returns-then-len-gt-LINE_LEN

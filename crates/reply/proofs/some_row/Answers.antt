@@ -1,6 +1,5 @@
 -- `reply::some_row` meets its contract. Assumes nothing.
 use Rattle.words.specs.Words.{le_bytes, placed}
-use borrow.Author.Rules.{rules}
 use Rattle.reply.proofs.some_row.Goals as goal
 
 pub returns : goal.returns

@@ -1,9 +1,4 @@
 -- `reply_assembler::play` meets its contract. The loop's invariant: what is left takes the last answer to the script's. Assumes nothing.
-use Prim.Native.Nat.{◌-◌, ◌*◌, ◌/◌, ◌≤◌}
-use mathlib.Core.Path.{◌≡◌}
-use lib.ListN.{length, drop}
-use Rattle.assembler.specs.WellFormed.{SoundAssembler}
-use Rattle.reply_assembler.specs.Script.{play_from, play_script}
 use Rattle.reply_assembler.proofs.ScriptWays.{sound_start, sound_turn, play_start, play_turn, play_done}
 use borrow.Author.Rules.{rules}
 use Rattle.reply_assembler.proofs.play.Goals as goal

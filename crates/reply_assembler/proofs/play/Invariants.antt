@@ -4,8 +4,6 @@ use mathlib.Core.Path.{◌≡◌}
 use lib.ListN.{length, drop}
 use Rattle.assembler.specs.WellFormed.{SoundAssembler}
 use Rattle.reply_assembler.specs.Script.{play_from, play_script}
-use Rattle.reply_assembler.proofs.ScriptWays.{sound_start, sound_turn, play_start, play_turn, play_done}
-use borrow.Author.Rules.{rules}
 use Rattle.reply_assembler.proofs.play.Given as goal
 
 abbrev pub invariant-loop-i : goal.invariant-loop-i

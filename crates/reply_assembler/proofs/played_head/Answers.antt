@@ -1,6 +1,5 @@
 -- `reply_assembler::played_head` meets its contract. Assumes nothing.
 use Rattle.words.specs.Words.{le_bytes, placed}
-use borrow.Author.Rules.{rules}
 use Rattle.reply_assembler.proofs.played_head.Goals as goal
 
 pub returns : goal.returns

@@ -6,7 +6,6 @@ use Rattle.words.specs.Words.{le_bytes, placed}
 use Rattle.words.proofs.Numbers.{stores}
 use Rattle.layout.specs.declared.StorageLayout.{StorageLayout}
 use Rattle.reply_codec.specs.CodecRows.{layout_row}
-use borrow.Author.Rules.{rules}
 use Rattle.reply_codec.proofs.layout_row.Goals as goal
 
 laid : (l : StorageLayout)

@@ -1,7 +1,6 @@
 -- `reply_codec::metadata_row` meets its contract. Assumes nothing.
 use Rattle.words.specs.Words.{le_bytes, placed}
 use Rattle.reply_codec.specs.CodecRows.{metadata_row}
-use borrow.Author.Rules.{rules}
 use Rattle.reply_codec.proofs.metadata_row.Goals as goal
 
 pub returns : goal.returns

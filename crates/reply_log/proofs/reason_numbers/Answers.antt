@@ -1,7 +1,6 @@
 -- `reply_log::reason_numbers` meets its contract. Assumes nothing.
 use Rattle.words.specs.Words.{le_bytes, placed}
 use Rattle.reply_log.specs.LogRows.{reason_numbers}
-use borrow.Author.Rules.{rules}
 use Rattle.reply_log.proofs.reason_numbers.Goals as goal
 
 pub returns : goal.returns

@@ -1,7 +1,6 @@
 -- `reply_log::stored_row` meets its contract. Assumes nothing.
 use Rattle.words.specs.Words.{le_bytes, placed}
 use Rattle.reply_log.specs.LogRows.{stored_row}
-use borrow.Author.Rules.{rules}
 use Rattle.reply_log.proofs.stored_row.Goals as goal
 
 pub returns : goal.returns

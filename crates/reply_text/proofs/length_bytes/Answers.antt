@@ -1,6 +1,5 @@
 -- `reply_text::length_bytes` meets its contract. Assumes nothing.
 use Rattle.words.specs.Words.{le_bytes}
-use borrow.Author.Rules.{rules}
 use Rattle.reply_text.proofs.length_bytes.Goals as goal
 
 pub returns : goal.returns

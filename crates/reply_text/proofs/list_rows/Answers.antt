@@ -1,13 +1,8 @@
 -- `reply_text::list_rows` meets its contract. The loop's invariant: the rows begin with the first i entries. Assumes nothing.
-use Prim.Native.Nat.{◌-◌, ◌≤◌}
-use mathlib.Core.Path.{◌≡◌, refl, ◌∙◌}
-use mathlib.Core.List.{map}
+use mathlib.Core.Path.{refl, ◌∙◌}
 use native.Mathlib.Omega.{arith}
-use lib.ListN.{length, take}
 use Rattle.blackbox.specs.Page.{joined, padded}
-use Rattle.reply_log.specs.LogRows.{stored_row}
 use Rattle.reply_text.proofs.TextWays.{entry_more, entries_all}
-use borrow.Author.Rules.{rules}
 use Rattle.reply_text.proofs.list_rows.Goals as goal
 
 pub loop-i-init : goal.loop-i-init

@@ -1,5 +1,4 @@
 -- `reply_text::stored_at` meets its contract. Assumes nothing.
-use borrow.Author.Rules.{rules}
 use Rattle.reply_text.proofs.stored_at.Goals as goal
 
 pub returns : goal.returns

@@ -2,7 +2,6 @@
 use Prim.Native.Nat.{◌-◌}
 use mathlib.Core.Path.{◌≡◌}
 use lib.ListN.{length}
-use borrow.Author.Rules.{rules}
 use Rattle.run_bench_day.proofs.offers.Given as goal
 
 abbrev pub invariant-loop-record : goal.invariant-loop-record

@@ -1,6 +1,5 @@
 -- `run_bench_day::say_calls` is safe and ends. Assumes nothing.
 use Prim.Native.Nat.{◌-◌, ◌≤◌}
-use borrow.Author.Rules.{rules}
 use Rattle.run_bench_day.proofs.say_calls.Given as goal
 
 abbrev pub invariant-loop-row : goal.invariant-loop-row

@@ -1,6 +1,5 @@
 -- `run_bench_day::say_missing` is safe and ends. Assumes nothing.
 use Prim.Native.Nat.{◌-◌}
-use borrow.Author.Rules.{rules}
 use Rattle.run_bench_day.proofs.say_missing.Given as goal
 
 abbrev pub invariant-loop-record : goal.invariant-loop-record

@@ -1,5 +1,5 @@
 -- `run_blackbox::refused_damages` is safe and ends. The loop's invariant: the page keeps its length. Assumes nothing.
-use Rattle.std.proofs.Common.{◌≡◌, ◌-◌, ◌≤◌, length, rules}
+use Rattle.std.proofs.Common.{◌≡◌, ◌-◌, ◌≤◌, length}
 use Rattle.run_blackbox.proofs.refused_damages.Given as goal
 
 abbrev pub invariant-loop-bit : goal.invariant-loop-bit

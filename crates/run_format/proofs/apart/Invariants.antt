@@ -2,7 +2,6 @@
 use Prim.Native.Nat.{◌-◌, ◌≤◌}
 use mathlib.Core.Path.{◌≡◌}
 use lib.ListN.{length}
-use borrow.Author.Rules.{rules}
 use Rattle.run_format.proofs.apart.Given as goal
 
 abbrev pub invariant-loop-i : goal.invariant-loop-i

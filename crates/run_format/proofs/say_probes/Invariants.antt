@@ -1,6 +1,5 @@
 -- `run_format::say_probes` is safe and ends. Assumes nothing.
 use Prim.Native.Nat.{◌-◌, ◌≤◌}
-use borrow.Author.Rules.{rules}
 use Rattle.run_format.proofs.say_probes.Given as goal
 
 abbrev pub invariant-loop-low : goal.invariant-loop-low

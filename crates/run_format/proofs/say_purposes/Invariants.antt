@@ -1,6 +1,5 @@
 -- `run_format::say_purposes` is safe and ends. Assumes nothing.
 use Prim.Native.Nat.{◌-◌, ◌≤◌}
-use borrow.Author.Rules.{rules}
 use Rattle.run_format.proofs.say_purposes.Given as goal
 
 abbrev pub invariant-loop-i : goal.invariant-loop-i

@@ -1,5 +1,5 @@
 -- `run_replay::line_end` is safe and ends. The loop's invariant: the end lies at or behind the place. Assumes nothing.
-use Rattle.std.proofs.Common.{◌-◌, ◌≤◌, length, rules}
+use Rattle.std.proofs.Common.{◌-◌, ◌≤◌, length}
 use Rattle.run_replay.proofs.line_end.Given as goal
 
 abbrev pub invariant-loop-i : goal.invariant-loop-i

@@ -1,5 +1,5 @@
 -- `run_replay::mask_number` is safe and ends. The loop's invariant: the mask keeps its length, and value and step are bytes. Assumes nothing.
-use Rattle.std.proofs.Common.{◌≡◌, ◌-◌, ◌≤◌, length, rules}
+use Rattle.std.proofs.Common.{◌≡◌, ◌-◌, ◌≤◌, length}
 use Rattle.run_replay.proofs.mask_number.Given as goal
 
 abbrev pub invariant-loop-i : goal.invariant-loop-i

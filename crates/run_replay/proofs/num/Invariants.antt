@@ -1,5 +1,5 @@
 -- `run_replay::num` is safe and ends. The loop's invariant: what is read lies in the line. Assumes nothing.
-use Rattle.std.proofs.Common.{◌-◌, ◌≤◌, length, rules}
+use Rattle.std.proofs.Common.{◌-◌, ◌≤◌, length}
 use Rattle.run_replay.proofs.num.Given as goal
 
 abbrev pub invariant-loop-i : goal.invariant-loop-i

@@ -1,5 +1,5 @@
 -- `run_replay::put_offers` is safe and ends. The loop's invariant: the script keeps its length. Assumes nothing.
-use Rattle.std.proofs.Common.{◌≡◌, ◌-◌, length, rules}
+use Rattle.std.proofs.Common.{◌≡◌, ◌-◌, length}
 use Rattle.run_replay.proofs.put_offers.Given as goal
 
 abbrev pub invariant-loop-i : goal.invariant-loop-i

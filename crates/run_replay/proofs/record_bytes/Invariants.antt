@@ -1,5 +1,5 @@
 -- `run_replay::record_bytes` is safe and ends. The loop's invariant: the record keeps its length, the value is a byte and the step small. Assumes nothing.
-use Rattle.std.proofs.Common.{◌≡◌, ◌-◌, ◌≤◌, length, rules}
+use Rattle.std.proofs.Common.{◌≡◌, ◌-◌, ◌≤◌, length}
 use Rattle.run_replay.proofs.record_bytes.Given as goal
 
 abbrev pub invariant-loop-j : goal.invariant-loop-j

@@ -1,5 +1,5 @@
 -- `run_replay::replay` is safe and ends. The loop's invariant: every lent slice keeps its length. Assumes nothing.
-use Rattle.std.proofs.Common.{◌≡◌, ◌-◌, length, rules}
+use Rattle.std.proofs.Common.{◌≡◌, ◌-◌, length}
 use Rattle.run_replay.proofs.replay.Given as goal
 
 abbrev pub invariant-loop-at : goal.invariant-loop-at

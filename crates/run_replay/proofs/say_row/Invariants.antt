@@ -1,5 +1,5 @@
 -- `run_replay::say_row` is safe and ends. The loop's invariant: what is printed lies in the row. Assumes nothing.
-use Rattle.std.proofs.Common.{◌-◌, ◌≤◌, length, rules}
+use Rattle.std.proofs.Common.{◌-◌, ◌≤◌, length}
 use Rattle.run_replay.proofs.say_row.Given as goal
 
 abbrev pub invariant-loop-i : goal.invariant-loop-i

@@ -1,5 +1,5 @@
 -- `run_samples::fill_noise` is safe and ends. The loop's invariant: i lies within the block, which keeps its length. Assumes nothing.
-use Rattle.std.proofs.Common.{◌≡◌, ◌-◌, ◌≤◌, length, refl, arith, length-set, rules}
+use Rattle.std.proofs.Common.{refl, arith, length-set}
 use Rattle.run_samples.proofs.fill_noise.Goals as goal
 
 pub loop-i-init : goal.loop-i-init

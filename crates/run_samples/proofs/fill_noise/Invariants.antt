@@ -1,5 +1,5 @@
 -- `run_samples::fill_noise` is safe and ends. The loop's invariant: i lies within the block, which keeps its length. Assumes nothing.
-use Rattle.std.proofs.Common.{◌≡◌, ◌-◌, ◌≤◌, length, refl, arith, length-set, rules}
+use Rattle.std.proofs.Common.{◌≡◌, ◌-◌, ◌≤◌, length}
 use Rattle.run_samples.proofs.fill_noise.Given as goal
 
 abbrev pub invariant-loop-i : goal.invariant-loop-i

@@ -1,6 +1,6 @@
 -- `run_samples::put_flight` is safe and ends. The loop's invariant: at most so many pages are put, and the image keeps its
 -- length. Assumes nothing.
-use Rattle.std.proofs.Common.{◌≡◌, ◌-◌, ◌≤◌, length, refl, ◌∙◌, arith, rules}
+use Rattle.std.proofs.Common.{refl, ◌∙◌, arith}
 use Rattle.run_samples.proofs.put_flight.Goals as goal
 
 pub loop-sequence-init : goal.loop-sequence-init

@@ -1,11 +1,9 @@
 -- `script::is_script` meets its contract. The loop's invariant: every row before it is one. Assumes nothing.
 use Prim.Native.Nat.{◌-◌, ◌%◌, ◌≤◌}
-use mathlib.Core.Path.{◌≡◌, refl}
+use mathlib.Core.Path.{◌≡◌}
 use mathlib.Core.Bool.{true}
-use native.Mathlib.Omega.{arith}
 use lib.ListN.{length}
 use Rattle.script.specs.Script.{rows_in, each_is_row}
-use Rattle.script.proofs.Rows.{bad_length_lem, bad_row, row_more, no_row_yet, every_row, row_long}
 use Rattle.script.proofs.is_script.Given as goal
 
 abbrev pub invariant-loop-i : goal.invariant-loop-i

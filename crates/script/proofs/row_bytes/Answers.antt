@@ -1,6 +1,5 @@
 -- `script::row_bytes` meets its contract. Assumes nothing.
 use Rattle.script.proofs.Rows.{row_made}
-use borrow.Author.Rules.{rules}
 use Rattle.script.proofs.row_bytes.Goals as goal
 
 pub returns : goal.returns

@@ -2,7 +2,6 @@
 use mathlib.Core.Path.{sym}
 use native.Mathlib.Omega.{arith}
 use Rattle.store.proofs.Checks.{past_end, crosses, in_page}
-use borrow.Author.Rules.{rules}
 use Rattle.store.proofs.in_one_page.Goals as goal
 
 pub returns-then-capacity-at : goal.returns-then-capacity-at

@@ -1,5 +1,4 @@
 -- `store::kept` meets its contract. Assumes nothing.
-use borrow.Author.Rules.{rules}
 use Rattle.store.proofs.kept.Goals as goal
 
 pub returns : goal.returns

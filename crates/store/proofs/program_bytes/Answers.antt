@@ -1,6 +1,5 @@
 -- `store::program_bytes` meets its contract. The loop's invariant: the first i bytes are programmed. Assumes nothing.
-use Prim.Native.Nat.{◌-◌, ◌≤◌}
-use mathlib.Core.Path.{◌≡◌, refl, ap, ◌∙◌}
+use mathlib.Core.Path.{refl, ap, ◌∙◌}
 use lib.ListN.{length, length-set}
 use Rattle.store.specs.Store.{mask}
 use Rattle.store.proofs.Bytes.{so_far, none_yet, one_more, programmed_all}

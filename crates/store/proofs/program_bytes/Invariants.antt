@@ -1,11 +1,9 @@
 -- `store::program_bytes` meets its contract. The loop's invariant: the first i bytes are programmed. Assumes nothing.
 use Prim.Native.Nat.{◌-◌, ◌≤◌}
-use mathlib.Core.Path.{◌≡◌, refl, ap, ◌∙◌}
-use lib.ListN.{length, length-set}
+use mathlib.Core.Path.{◌≡◌}
+use lib.ListN.{length}
 use Rattle.store.specs.Store.{mask}
-use Rattle.store.proofs.Bytes.{so_far, none_yet, one_more, programmed_all}
-use borrow.Author.Rules.{rules}
-use native.Mathlib.Omega.{arith}
+use Rattle.store.proofs.Bytes.{so_far}
 use Rattle.store.proofs.program_bytes.Given as goal
 
 abbrev pub invariant-loop-i : goal.invariant-loop-i

@@ -1,7 +1,6 @@
 -- `words::byte_at` meets its contract: past the end a list reads as 0. Assumes nothing.
 use mathlib.Core.Path.{sym}
 use lib.ListN.{get_or-eq_default}
-use borrow.Author.Rules.{rules}
 use Rattle.words.proofs.byte_at.Goals as goal
 
 pub returns-else-at-s : goal.returns-else-at-s

@@ -1,11 +1,8 @@
 -- `words::put_bytes` meets its contract. The loop's invariant: the first i bytes are placed. Assumes nothing.
-use Prim.Native.Nat.{◌+◌, ◌-◌, ◌≤◌}
-use mathlib.Core.Path.{◌≡◌, refl, sym, ap, ◌∙◌}
+use mathlib.Core.Path.{refl, sym, ap, ◌∙◌}
 use lib.ListN.{length, length-set}
 use lib.Seq.{paste, paste-zero}
-use Rattle.words.specs.Words.{placed}
 use Rattle.words.proofs.Numbers.{put_turn, placed_fits, placed_short}
-use borrow.Author.Rules.{rules}
 use native.Mathlib.Omega.{arith}
 use Rattle.words.proofs.put_bytes.Goals as goal
 

@@ -1,6 +1,5 @@
 -- `words::put_i16` meets its contract. Assumes nothing.
 use Rattle.words.proofs.Signed.{signed_bits}
-use borrow.Author.Rules.{rules}
 use Rattle.words.proofs.put_i16.Goals as goal
 
 pub returns : goal.returns

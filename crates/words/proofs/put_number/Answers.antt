@@ -1,12 +1,11 @@
 -- `words::put_number` meets its contract. The loop's invariant: the first i bytes are placed, and the rest writes those that are left.
 -- Assumes nothing.
-use Prim.Native.Nat.{ℕ, ◌+◌, ◌-◌, ◌≤◌}
-use mathlib.Core.Path.{◌≡◌, refl, sym, ap, ◌∙◌}
-use lib.ListN.{length, drop, set, length-set}
+use Prim.Native.Nat.{ℕ, ◌-◌}
+use mathlib.Core.Path.{refl, sym, ap, ◌∙◌}
+use lib.ListN.{length, length-set}
 use lib.Seq.{paste, paste-zero}
 use Rattle.words.specs.Words.{le_bytes}
 use Rattle.words.proofs.Numbers.{length_le_bytes, next_byte_lem, next_rest, put_turn, placed_fits, placed_short}
-use borrow.Author.Rules.{rules}
 use native.Mathlib.Omega.{arith}
 use Rattle.words.proofs.put_number.Goals as goal
 

@@ -1,13 +1,10 @@
 -- `words::put_number` meets its contract. The loop's invariant: the first i bytes are placed, and the rest writes those that are left.
 -- Assumes nothing.
-use Prim.Native.Nat.{ℕ, ◌+◌, ◌-◌, ◌≤◌}
-use mathlib.Core.Path.{◌≡◌, refl, sym, ap, ◌∙◌}
-use lib.ListN.{length, drop, set, length-set}
-use lib.Seq.{paste, paste-zero}
+use Prim.Native.Nat.{◌+◌, ◌-◌, ◌≤◌}
+use mathlib.Core.Path.{◌≡◌}
+use lib.ListN.{length, drop}
+use lib.Seq.{paste}
 use Rattle.words.specs.Words.{le_bytes}
-use Rattle.words.proofs.Numbers.{length_le_bytes, next_byte_lem, next_rest, put_turn, placed_fits, placed_short}
-use borrow.Author.Rules.{rules}
-use native.Mathlib.Omega.{arith}
 use Rattle.words.proofs.put_number.Given as goal
 
 abbrev pub invariant-loop-i : goal.invariant-loop-i

@@ -1,11 +1,9 @@
 -- `words::same_bytes` meets its contract. The loop's invariant: what is left decides, unless a byte before it differs. Assumes nothing.
-use native.Mathlib.Omega.{arith}
-use Prim.Native.Nat.{◌-◌, ◌≤◌, ◌<◌}
-use mathlib.Core.Path.{◌≡◌, sym}
+use Prim.Native.Nat.{◌-◌, ◌≤◌}
+use mathlib.Core.Path.{◌≡◌}
 use lib.ListN.{length}
 use Rattle.words.specs.Words.{same_bytes}
-use Rattle.words.proofs.Same.{other_length, left_same, left_next, left_none}
-use borrow.Author.Rules.{rules}
+use Rattle.words.proofs.Same.{left_same}
 use Rattle.words.proofs.same_bytes.Given as goal
 
 abbrev pub invariant-loop-i : goal.invariant-loop-i

@@ -4,7 +4,6 @@ use mathlib.Core.Path.{ap}
 use mir.Syntax.{w16}
 use mir.Val.{to_z}
 use native.Mathlib.Omega.{arith}
-use borrow.Author.Rules.{rules}
 use Rattle.words.proofs.to_i16.Goals as goal
 
 pub returns-else-v-lt32768 : goal.returns-else-v-lt32768

@@ -2,7 +2,6 @@
 use mathlib.Core.Path.{sym}
 use Rattle.words.proofs.Numbers.{u16_bytes, past_end}
 use native.Mathlib.Omega.{arith}
-use borrow.Author.Rules.{rules}
 use Rattle.words.proofs.u16_at.Goals as goal
 
 pub returns-then-s-at : goal.returns-then-s-at

@@ -2,7 +2,6 @@
 use native.Mathlib.Omega.{arith}
 use mathlib.Core.Path.{sym}
 use Rattle.words.proofs.Numbers.{u32_bytes, past_end}
-use borrow.Author.Rules.{rules}
 use Rattle.words.proofs.u32_at.Goals as goal
 
 pub returns-then-s-at : goal.returns-then-s-at

@@ -1,6 +1,5 @@
 -- `words::u32_bytes` meets its contract. Assumes nothing.
 use Rattle.words.specs.Words.{le_bytes}
-use borrow.Author.Rules.{rules}
 use Rattle.words.proofs.u32_bytes.Goals as goal
 
 pub returns : goal.returns
