@@ -1,6 +1,6 @@
-//! Finds libstipeflute.a: in the folder that STIPEFLUTE_LIB names, else in target/staticlib of the repository, where `rt staticlib
-//! stipeflute` proves the crate and writes it if it is not there or older than a source. An older one in a folder that was named is used,
-//! with a warning. With STIPEFLUTE_LIB=none nothing is linked, for a program that makes no call.
+//! Finds libstipeflute.a: in the folder that STIPEFLUTE_LIB names, else in target/staticlib of the repository, where `tools/archive`
+//! proves the exports and writes it if it is not there or older than a source. An older one in a folder that was named is used, with a
+//! warning. With STIPEFLUTE_LIB=none nothing is linked, for a program that makes no call.
 
 use std::{
     env, fs,
@@ -12,14 +12,17 @@ use std::{
 fn main() {
     println!("cargo:rerun-if-env-changed=STIPEFLUTE_LIB");
     let root = PathBuf::from(env::var_os("CARGO_MANIFEST_DIR").expect("cargo names the folder")).join("..");
-    println!("cargo:rerun-if-changed={}", root.join("crates").display());
+    let sources = sources(&root);
+    for source in &sources {
+        println!("cargo:rerun-if-changed={}", source.display());
+    }
     let named = env::var_os("STIPEFLUTE_LIB").map(PathBuf::from);
     if named.as_deref() == Some(Path::new("none")) {
         return;
     }
     let folder = named.clone().unwrap_or_else(|| root.join("target").join("staticlib"));
     let archive = folder.join("libstipeflute.a");
-    let stale = newest(&root.join("crates")) > changed(&archive);
+    let stale = sources.iter().filter_map(|source| newest(source)).max() > changed(&archive);
     if named.is_none() && stale {
         build(&root);
     }
@@ -30,6 +33,12 @@ fn main() {
     println!("cargo:rerun-if-changed={}", archive.display());
     println!("cargo:rustc-link-search=native={}", folder.display());
     println!("cargo:rustc-link-lib=static=stipeflute");
+}
+
+/// The folder src of each crate: a crate's other folders change no code, and its out/ changes at every check.
+fn sources(root: &Path) -> Vec<PathBuf> {
+    let crates = fs::read_dir(root.join("crates")).into_iter().flatten().flatten();
+    crates.map(|entry| entry.path().join("src")).filter(|source| source.is_dir()).collect()
 }
 
 /// When a file was last written; none where there is no such file.
@@ -52,10 +61,10 @@ fn newest(folder: &Path) -> Option<SystemTime> {
 }
 
 fn build(root: &Path) {
-    let status = Command::new("rt").args(["staticlib", "stipeflute"]).current_dir(root).status();
+    let status = Command::new(root.join("tools").join("archive")).status();
     match status {
         Ok(status) if status.success() => {}
-        Ok(status) => panic!("rt staticlib stipeflute: {status}"),
-        Err(error) => panic!("rt staticlib stipeflute: {error}; put rt in PATH, or name the archive's folder in STIPEFLUTE_LIB"),
+        Ok(status) => panic!("tools/archive: {status}; put rt in PATH, or name the archive's folder in STIPEFLUTE_LIB"),
+        Err(error) => panic!("tools/archive: {error}"),
     }
 }
