@@ -392,13 +392,12 @@ fn children_time() -> Duration {
     Duration::from_micros((usage[0] * 1_000_000 + usage[1] + usage[2] * 1_000_000 + usage[3]) as u64)
 }
 
-/// The census program on an image, by its processor time; `program` is a command of words.
+/// The census program on an image, by its processor time.
 fn census_time(program: &str, image: &[u8]) -> f64 {
     let times = (0..15).map(|_| {
         let began = children_time();
-        let mut words = program.split(' ');
-        let mut command = Command::new(words.next().unwrap());
-        let mut child = command.args(words).stdin(Stdio::piped()).stdout(Stdio::null()).spawn().expect("the census program starts");
+        let mut child =
+            Command::new(program).stdin(Stdio::piped()).stdout(Stdio::null()).spawn().expect("the census program starts");
         child.stdin.take().unwrap().write_all(image).unwrap();
         assert!(child.wait().unwrap().success());
         (children_time() - began).as_secs_f64()
@@ -409,7 +408,7 @@ fn census_time(program: &str, image: &[u8]) -> f64 {
 /// The census program on a log of 176 flights, and on an image that it refuses, which is what starting it costs.
 fn census(random: &mut Seeded) {
     let Ok(program) = std::env::var("STIPEFLUTE_CENSUS") else {
-        println!("census: not measured, since its program is not at hand (rt check run_census makes it, for x86-64)");
+        println!("census: not measured, since its program is not at hand (./stipeflute census makes it)");
         return;
     };
     let mut image = Image::erased(61_440);
