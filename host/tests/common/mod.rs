@@ -81,13 +81,9 @@ pub struct Answer {
     pub err: String,
 }
 
-/// The program: under the emulator that STIPEFLUTE_RUNNER names where the machine is no x86-64.
+/// The program.
 pub fn program() -> Command {
-    let runner = std::env::var("STIPEFLUTE_RUNNER").unwrap_or_default();
-    let mut words = runner.split_whitespace().chain([env!("CARGO_BIN_EXE_stipeflute")]);
-    let mut command = Command::new(words.next().unwrap());
-    command.args(words);
-    command
+    Command::new(env!("CARGO_BIN_EXE_stipeflute"))
 }
 
 pub fn ask(words: &[&str]) -> Answer {
