@@ -396,8 +396,7 @@ fn children_time() -> Duration {
 fn census_time(program: &str, image: &[u8]) -> f64 {
     let times = (0..15).map(|_| {
         let began = children_time();
-        let mut child =
-            Command::new(program).stdin(Stdio::piped()).stdout(Stdio::null()).spawn().expect("the census program starts");
+        let mut child = Command::new(program).stdin(Stdio::piped()).stdout(Stdio::null()).spawn().expect("the census program starts");
         child.stdin.take().unwrap().write_all(image).unwrap();
         assert!(child.wait().unwrap().success());
         (children_time() - began).as_secs_f64()
