@@ -260,7 +260,7 @@ uint32_t stipeflute_assemble(const uint8_t *script, size_t script_len, uint8_t *
  * report, and 0 after any other call: that a write_pending wrote its page is told by its outcome and by the next page, and a failed one
  * counts no fault.
  * Refused: 5, 17 (a row that is malformed, or an output of another length); then image and output stay as they were.
- * Stack: 16 KB. */
+ * Stack: 25 KB. */
 uint32_t stipeflute_rig(uint32_t capacity_bytes, uint8_t *image, size_t image_len, const uint8_t *script, size_t script_len,
                         uint8_t *output, size_t output_len);
 
