@@ -16,20 +16,20 @@ overflow_sub-at c =
 
 pub bounds-text-at-in-loop-rest : goal.bounds-text-at-in-loop-rest
 bounds-text-at-in-loop-rest c =
-    let l = c.loop-rest in
-    omega (arith, place_left _ (omega arith) l.text l.at l.rest l.invariant.2 l.invariant.0 l.invariant.3 (omega arith))
+    let m = c.loop-rest in
+    omega (arith, place_left _ (omega arith) m.text m.at m.rest m.invariant.2 m.invariant.0 m.invariant.3 (omega arith))
 
 pub loop-rest-preserved : goal.loop-rest-preserved
 loop-rest-preserved c =
-    let l = c.loop-rest in
+    let k = c.loop-rest in
     let d = c.last_digit-in-loop-rest in (
       omega arith,
       omega arith,
       simp length-set (omega arith),
-      laid_next _ (omega arith) l.text l.at l.rest l.invariant.2 l.invariant.0 l.invariant.3 (omega arith) d.result d.ensures,
+      laid_next _ (omega arith) k.text k.at k.rest k.invariant.2 k.invariant.0 k.invariant.3 (omega arith) d.result d.ensures,
     )
 
 pub returns : goal.returns
 returns c =
-    let l = c.loop-rest in
-    (l.invariant.0, l.invariant.2, laid_all _ l.text l.at l.rest (omega arith) l.invariant.3)
+    let e = c.loop-rest in
+    (e.invariant.0, e.invariant.2, laid_all _ e.text e.at e.rest (omega arith) e.invariant.3)
