@@ -88,7 +88,7 @@ module _ (c : ℕ) (image script output longer output' : List ℕ) (p : Plays c 
           leaving = search (sym same.queue ∙ h.queue);
           waiting = by pass.power_gone refl;
           exactly =
-              marked_as h.logged (search (ap (λ (w : Writer real). w.mark_due) same.writer))
+              marked_as {due' = b.writer.boot_session_start} h.logged (search (ap (λ (w : Writer real). w.mark_due) same.writer))
               (ones_loggable real real_lawful tt while_disarmed d.writer.assembler.recording d.writer.assembler.edition (λ z. refl) h.left (one_edition h.left));
         }
       where
