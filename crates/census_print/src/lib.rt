@@ -10,11 +10,9 @@ use census_text::CensusText;
 pub fn print_census(input: i32) -> CensusText
     ensures { SomeCensus result }
 {
-    let mut image = [0u8; 61441];
+    let mut image = [0; 61441];
     let n = io::read_full(input, &mut image);
     let text = census_text::census_text(&image[..n]);
-    let bytes = text.bytes;
-    let length = text.length;
-    io::write_all(1, &bytes[..length]);
+    io::write_all(1, text.as_slice());
     text
 }

@@ -1,10 +1,9 @@
-pub mod Texts
 pub mod Pages
 pub mod Records
-pub mod Lines
-pub mod Bounds
-pub mod Whole
 pub mod Flights
+pub mod Bounds
+pub mod Lines
 pub mod Passes
 pub mod Laws
 pub mod Refusals
+pub mod Whole

@@ -6,9 +6,12 @@ use native.Mathlib.Nat.{add-zero, mul_assoc, mul_comm}
 use native.Mathlib.Omega.{arith}
 use lib.Arith.{bin_ind, digits_mod, digits_div}
 use lib.Bits.{bit_xor, differ, xor_step, xor_comm, xor_zero_r, xor_shifted, xor_block}
-use lib.ListN.{length, drop, get_or}
+use lib.ListN.{length, take, drop, get_or, length-take, length-drop}
+use lib.Seq.{drop-drop, take_all}
 use lib.Pow.{pow-add, pow_pos, shr-shr}
-use Rattle.words.specs.Words.{Bytes, le_at}
+use Rattle.std.specs.Int.{w64, from_le_bytes}
+use Rattle.std.specs.Simd.{first_chunks}
+use Rattle.words.specs.Words.{Bytes, le_value, le_at}
 use Rattle.words.proofs.Numbers.{at_none, at_more}
 use Rattle.crc32.specs.Crc.{returned, bit_step, bit_steps, byte_step, remainder}
 use Rattle.crc32.proofs.Remainders.{remainder_next}
@@ -141,14 +144,33 @@ many (suc k) s l i h n =
     (sym (at_more k l i ∙ ap (λ (j : ℕ). get_or l i 0 + 256 * le_at k l j) next)))
     end
 
--- a turn of the loop that goes by eights, and its end
-pub word_turn : (s r a w : ℕ) (l : List ℕ) (i whole : ℕ) → Bytes l → i + 8 ≤ length l → a ≡ s → w ≡ le_at 8 l i → r ≡ bit_steps 64 (bit_xor a w)
-    → remainder s (drop i l) ≡ whole → remainder r (drop (i + 8) l) ≡ whole
-word_turn s r a w l i whole h n ea ew er t =
-    ap (λ (x : ℕ). remainder x (drop (i + 8) l)) (er ∙ ap (bit_steps 64) (ap₂ bit_xor ea ew)) ∙ sym (many 8 s l i h n) ∙ t
+-- ---- eight bytes as one number
 
-pub words_end : (s : ℕ) (l : List ℕ) (i n whole : ℕ) → n ≡ i → remainder s (drop i l) ≡ whole → remainder s (drop n l) ≡ whole
-words_end s l i n whole e t = ap (λ (j : ℕ). remainder s (drop j l)) e ∙ t
+eight : (bs : List ℕ) → le_at 8 bs 0 ≡ from_le_bytes w64 bs
+eight bs =
+    rw (at_more 7 bs 0, at_more 6 bs 1, at_more 5 bs 2, at_more 4 bs 3, at_more 3 bs 4, at_more 2 bs 5, at_more 1 bs 6, at_more 0 bs 7, at_none)
+    (omega arith)
+
+chunk_at : (k i : ℕ) (l d : List ℕ) → i < k → get_or (first_chunks 8 k l) i d ≡ take 8 (drop (i * 8) l)
+chunk_at zero i l d h = absurd (omega arith)
+chunk_at (suc k) zero l d h = refl
+chunk_at (suc k) (suc i) l d h =
+    let on : 8 + i * 8 ≡ suc i * 8 = omega arith in
+    chunk_at k i (drop 8 l) d (omega arith) ∙ ap (take 8) (drop-drop (i * 8) 8 l ∙ ap (λ (j : ℕ). drop j l) on)
+
+-- a turn of the loop that goes by eights
+pub word_turn : (s r a w : ℕ) (l : List ℕ) (words : List (List ℕ)) (i whole : ℕ) (d : List ℕ) → Bytes l → words ≡ first_chunks 8 (length l / 8) l
+    → i < length l / 8 → a ≡ s → w ≡ from_le_bytes w64 (get_or words i d) → r ≡ bit_steps 64 (bit_xor a w)
+    → remainder s (drop (i * 8) l) ≡ whole → remainder r (drop ((i + 1) * 8) l) ≡ whole
+unfolding le_at
+word_turn s r a w l words i whole d h e n ea ew er t =
+    let bs = take 8 (drop (i * 8) l) in
+    let long : length bs ≡ 8 = omega (arith, length-take 8 (drop (i * 8) l), length-drop (i * 8) l) in
+    let next : i * 8 + 8 ≡ (i + 1) * 8 = omega arith in
+    let this = ew ∙ ap (λ (ws : List (List ℕ)). from_le_bytes w64 (get_or ws i d)) e ∙ ap (from_le_bytes w64) (chunk_at (length l / 8) i l d n)
+    ∙ sym (eight bs) ∙ ap le_value (take_all 8 bs (omega arith)) in
+    ap₂ (λ (x j : ℕ). remainder x (drop j l)) (er ∙ ap (bit_steps 64) (ap₂ bit_xor ea this)) (sym next)
+    ∙ sym (many 8 s l (i * 8) h (omega arith)) ∙ t
 
 -- ---- a number, digit by digit
 
@@ -199,25 +221,3 @@ pub digit_down : (left v s p : ℕ) → 0 < left → s ≡ bit_steps 64 (above l
 digit_down left v s p h hs hp =
     let one : left ≡ left - 1 + 1 = omega arith in
     digit_in (left - 1) v s p (hs ∙ ap (λ (n : ℕ). bit_steps 64 (above n v)) one) hp
-
--- ---- the number of eight bytes, by two of four
-
-eight : (l : List ℕ) (i : ℕ) → le_at 8 l i ≡ le_at 4 l i + 4294967296 * le_at 4 l (i + 4)
-eight l i =
-    let after : suc (suc (suc (suc i))) ≡ i + 4 = omega arith in
-    rw (
-      at_more 7 l i,
-      at_more 6 l (suc i),
-      at_more 5 l (suc (suc i)),
-      at_more 4 l (suc (suc (suc i))),
-      at_more 3 l i,
-      at_more 2 l (suc i),
-      at_more 1 l (suc (suc i)),
-      at_more 0 l (suc (suc (suc i))),
-      at_none,
-      after,
-    )
-    (omega arith)
-
-pub two_halves : (l : List ℕ) (i a b : ℕ) → a ≡ le_at 4 l i → b ≡ le_at 4 l (i + 4) → a + 4294967296 * b ≡ le_at 8 l i
-two_halves l i a b ea eb = ap₂ (λ (x y : ℕ). x + 4294967296 * y) ea eb ∙ sym (eight l i)

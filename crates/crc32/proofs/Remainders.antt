@@ -1,13 +1,12 @@
 -- The remainder over the rest of a message, one byte at a time, and its range. Assumes nothing.
 use mathlib.Core.Path.{◌≡◌, sym, ap, ◌∙◌}
 use mathlib.Core.List.{List, [], ◌∷◌}
-use Prim.Native.Nat.{ℕ, zero, suc, ◌+◌, ◌-◌, ◌/◌, ◌%◌, ◌≤◌, ◌<◌, ◌^◌}
-use native.Mathlib.Nat.{le_refl}
+use Prim.Native.Nat.{ℕ, zero, suc, ◌+◌, ◌/◌, ◌%◌, ◌≤◌, ◌<◌, ◌^◌}
 use native.Mathlib.Numerals.{add-one}
 use native.Mathlib.Omega.{arith}
 use lib.Bits.{bit_xor, xor_lt}
-use lib.ListN.{length, take, drop, get_or, drop_of_length-le, length-drop}
-use lib.Seq.{drop-cons, take_all}
+use lib.ListN.{length, drop, get_or, drop_of_length-le}
+use lib.Seq.{drop-cons}
 use Rattle.words.specs.Words.{Bytes}
 use Rattle.crc32.specs.Crc.{returned, bit_step, bit_steps, byte_step, remainder, crc32_of}
 
@@ -27,14 +26,6 @@ byte_turn s r l i whole h e t = ap (λ (x : ℕ). remainder x (drop (i + 1) l)) 
 
 pub bytes_end : (s : ℕ) (l : List ℕ) (i whole : ℕ) → length l ≤ i → remainder s (drop i l) ≡ whole → s ≡ whole
 bytes_end s l i whole h t = sym (remainder_end s l i h) ∙ t
-
--- the bytes from a place on, as a part that ends where they end
-pub checksum_end : (l : List ℕ) (s r a : ℕ) → r ≡ remainder s (take (length l - a) (drop a l)) → remainder s (drop a l) ≡ remainder 0xffffffff l
-    → bit_xor r 0xffffffff ≡ crc32_of l
-unfolding crc32_of
-checksum_end l s r a e t =
-    let whole : length (drop a l) ≤ length l - a = rw (length-drop a l) (le_refl (length l - a)) in
-    ap (λ (x : ℕ). bit_xor x 0xffffffff) (e ∙ ap (remainder s) (take_all (length l - a) (drop a l) whole) ∙ t)
 
 -- ---- a checksum has 32 bits
 

@@ -9,6 +9,7 @@ use lib.ListN.{length, get_or}
 use lib.Bits.{bit_xor, xor_zero_r}
 use Rattle.crc32.specs.Crc.{returned, bit_step, bit_steps}
 use Rattle.crc32.specs.Table.{Tabled}
+use Rattle.crc32.specs.declared.TheConstants.{TABLE}
 
 abbrev both : Bool → Bool → Bool
 both true b = b
@@ -64,3 +65,8 @@ tabled t n all = (
       (subst (λ (m : ℕ). T (entry m (get_or t k 0))) (zero-add k) (from t 0 all k (subst (λ (m : ℕ). k < m) (sym n) h)))
       ∙ as_steps 64 (k % 16 * 2 ^ (4 * (k / 16))),
 )
+
+-- every entry of the source's table is as it has to be
+pub the_table : Tabled TABLE
+unfolding entries steps
+the_table = tabled TABLE refl tt

@@ -13,7 +13,7 @@ const POLYNOMIAL: u32 = 0xEDB8_8320;
 const ONES: u32 = 0xffff_ffff;
 
 // At 16 * place + digit: the digit at that place of a number, 64 bit steps later.
-const TABLE: [u32; 256] = [
+static TABLE: [u32; 256] = [
     0x0000_0000,
     0xccaa_009e,
     0x4225_077d,
@@ -285,94 +285,29 @@ fn bit_step(crc: u32) -> u32
 fn byte_step(crc: u32, byte: u8) -> u32
     ensures { result ≡ byte_step crc byte }
 {
-    let mut state = crc ^ (byte as u32);
-    for k in 0u32..8 {
+    let mut state = crc ^ u32::from(byte);
+    for _ in 0..8u32 {
         state = bit_step(state);
     }
     state
 }
 
-// A byte as a number of 64 bits.
-fn wide(byte: u8) -> u64
-    ensures { (result ≡ byte) × (result < 256) }
-{
-    byte as u64
-}
-
-// A checksum as a number of 64 bits.
-fn wide_crc(crc: u32) -> u64
-    ensures { result ≡ crc }
-{
-    crc as u64
-}
-
-// The number that four bytes write at an offset.
-fn half(bytes: &[u8], at: usize) -> u64
-    requires { at + 4 ≤ length bytes.now }
-    ensures { (result ≡ le_at 4 bytes.now at) × (result < 4294967296) }
-{
-    let a = wide(bytes[at]);
-    let b = wide(bytes[at + 1]);
-    let c = wide(bytes[at + 2]);
-    let d = wide(bytes[at + 3]);
-    a + 256 * (b + 256 * (c + 256 * d))
-}
-
-// The number that eight bytes write at an offset.
-fn word(bytes: &[u8], at: usize) -> u64
-    requires { at + 8 ≤ length bytes.now }
-    ensures { result ≡ le_at 8 bytes.now at }
-{
-    half(bytes, at) + 4294967296 * half(bytes, at + 4)
-}
-
 // A number's lowest digit, as if it stood at that place, 64 bit steps later.
-fn digit(table: &[u32], place: usize, v: u64) -> u32
-    requires tabled { Tabled table.now }
-    requires place_bound { place < 16 }
+fn digit(place: usize, v: u64) -> u32
+    requires { place < 16 }
     ensures { result ≡ bit_steps 64 (v % 16 * 2 ^ (4 * place)) }
 {
     let low = (v % 16) as usize;
-    table[16 * place + low]
+    TABLE[16 * place + low]
 }
 
 // A number, 64 bit steps later, digit by digit from the highest on: those above the 32 bits of a checksum don't wait for the step before.
-fn word_step(table: &[u32], v: u64) -> u32
-    requires { Tabled table.now }
+fn word_step(v: u64) -> u32
     ensures { result ≡ bit_steps 64 v }
 {
-    let mut crc: u32 = 0;
-    let mut left: usize = 16;
-    while 0 < left {
-        left -= 1;
-        crc = crc ^ digit(table, left, v >> (4 * left));
-    }
-    crc
-}
-
-// The remainder once the bytes have gone by eights; fewer than eight are left.
-fn by_words(table: &[u32], bytes: &[u8]) -> u32
-    requires { Tabled table.now }
-    ensures { remainder result (drop (length bytes.now / 8 * 8) bytes.now) ≡ remainder 0xffffffff bytes.now }
-{
-    let mut crc = ONES;
-    let mut i = 0;
-    while 8 <= bytes.len() - i {
-        crc = word_step(table, wide_crc(crc) ^ word(bytes, i));
-        i += 8;
-    }
-    crc
-}
-
-// The remainder once the bytes have gone one by one.
-fn by_bytes(before: u32, bytes: &[u8]) -> u32
-    ensures { result ≡ remainder before bytes.now }
-{
-    let mut crc = before;
-    let mut i = 0;
-    while i < bytes.len() {
-        crc = byte_step(crc, bytes[i]);
-        i += 1;
+    let mut crc = 0;
+    for place in (0..16).rev() {
+        crc ^= digit(place, v >> (4 * place));
     }
     crc
 }
@@ -380,8 +315,13 @@ fn by_bytes(before: u32, bytes: &[u8]) -> u32
 pub fn crc32(bytes: &[u8]) -> u32
     ensures { result ≡ crc32_of bytes.now }
 {
-    let table = TABLE;
-    let crc = by_words(&table, bytes);
-    let whole = bytes.len() / 8 * 8;
-    by_bytes(crc, &bytes[whole..]) ^ ONES
+    let (words, rest) = bytes.as_chunks();
+    let mut crc = ONES;
+    for word in words {
+        crc = word_step(u64::from(crc) ^ u64::from_le_bytes(*word));
+    }
+    for byte in rest {
+        crc = byte_step(crc, *byte);
+    }
+    crc ^ ONES
 }

@@ -1,2 +1,2 @@
 pub mod Notation
-pub mod Back
+pub mod Pushed

@@ -9,6 +9,8 @@ use native.Mathlib.Omega.{arith}
 use borrow.Author.Tests.{lt-ltb, le-ltb, ltb-true, ltb-false}
 use lib.Dec.{ltb}
 use lib.ListN.{length, get_or, length-append, get_or-append}
+use Rattle.std.specs.Fmt.{decimal}
+use Rattle.std.proofs.lemmas.Fmt.{decimal_by_steps}
 use Rattle.digits.specs.Decimal.{digit, digits_in, decimal_of}
 use Rattle.digits.specs.Laws.{EachDigit, value_from, Writes, DecimalWrites, DecimalAlone, DecimalShort}
 
@@ -192,3 +194,10 @@ decimal_short (suc k) n p h = short_to k n h
 -- as many as ten for 32 bits
 pub decimal_ten : (n : ℕ) → n < 2 ^ 32 → length (decimal_of n) ≤ 10
 decimal_ten n h = short_to 9 n (omega arith)
+
+-- ---- the library's notation is this one
+
+pub same_decimal : (n : ℕ) → n < 2 ^ 32 → decimal n ≡ decimal_of n
+same_decimal n h =
+    decimal_by_steps (λ (m : ℕ) (l : List ℕ). l ≡ decimal_of m) (λ m s. sym (decimal_small m s))
+    (λ m l s e. ap (λ (x : List ℕ). x ++ digit (m % 10) ∷ []) e ∙ sym (decimal_more m s)) n (omega arith)

@@ -1,7 +1,5 @@
 -- Numbers in decimal notation, as Rust's `{}` prints them: ASCII digits, the most significant first, no leading zeros, "0" for 0.
-use Rattle.std.specs.Prelude.{ℕ, zero, suc, ◌+◌, ◌/◌, ◌%◌, cond, List, [], ◌∷◌, ◌++◌, ltb, length}
-use Rattle.blackbox.specs.Page.{padded}
-use Rattle.digits.specs.declared.Digits.{Digits}
+use Rattle.std.specs.Prelude.{ℕ, zero, suc, ◌+◌, ◌/◌, ◌%◌, cond, List, [], ◌∷◌, ◌++◌, ltb}
 
 -- the ASCII code of a digit: '0' is 48
 abbrev pub digit : ℕ → ℕ
@@ -16,7 +14,3 @@ digits_in (suc most) n = cond (ltb n 10) (digit n ∷ []) (digits_in most (n / 1
 -- a number in decimal notation: n has at most n + 1 digits
 unfoldable pub decimal_of : ℕ → List ℕ
 decimal_of n = digits_in (suc n) n
-
--- the digits in a fixed array: their length, their bytes, and 0x00 behind them
-abbrev pub digits_of : List ℕ → Digits
-digits_of bytes = record { len = length bytes; text = padded 10 0 bytes }

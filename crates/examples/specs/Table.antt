@@ -1,7 +1,6 @@
 -- Document 01, "Proved examples and run examples": "Proved together, as one table under a single claim". Each row quotes the
 -- document and says the same of the definitions that the contracts cite.
-use Rattle.std.specs.Prelude.{◌≡◌, [], ◌∷◌, pos, negsuc, get_or}
-use Rattle.std.proofs.Math.Option.{none, some}
+use Rattle.std.specs.Prelude.{◌≡◌, [], ◌∷◌, pos, negsuc, get_or, None, Some}
 use Rattle.laws.specs.Refusals.{invalid_layout, out_of_range}
 use Rattle.laws.specs.Answers.{gives, refuses}
 use Rattle.words.specs.Words.{u16_at, signed16}
@@ -18,10 +17,10 @@ pub record ProvedExamples : Type 0 where
   -- 2. "16,777,216 gives 65,472 pages; 16,781,312 and 20,481 refused."
   pub row_2 : (log_page_count_of 16777216 ≡ gives 65472) × (log_page_count_of 16781312 ≡ refuses invalid_layout 0) × (log_page_count_of 20481 ≡ refuses invalid_layout 0)
   -- 3. "Page 15 of 20,480 is at 16,128; page 16 has no address."
-  pub row_3 : (log_page_address 20480 15 ≡ gives (some 16128)) × (log_page_address 20480 16 ≡ gives none)
+  pub row_3 : (log_page_address 20480 15 ≡ gives (Some 16128)) × (log_page_address 20480 16 ≡ gives None)
   -- 4. "Erase steps of 20,480: 16,384, then 12,288, then none."
-  pub row_4 : (log_erase_sector_address 20480 0 ≡ gives (some 16384)) × (log_erase_sector_address 20480 1 ≡ gives (some 12288))
-      × (log_erase_sector_address 20480 2 ≡ gives none)
+  pub row_4 : (log_erase_sector_address 20480 0 ≡ gives (Some 16384)) × (log_erase_sector_address 20480 1 ≡ gives (Some 12288))
+      × (log_erase_sector_address 20480 2 ≡ gives None)
   -- 5. "Flight 1 in that ledger: byte 16,392, mask 1; flight 9: 16,393, mask 1."
   pub row_5 : (bit_location 20480 1 ≡ gives (location 16392 1)) × (bit_location 20480 9 ≡ gives (location 16393 1))
   -- 6. "Flight 32,704: byte 20,479, mask 128; 0 and 32,705 refused 8."

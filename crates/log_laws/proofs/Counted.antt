@@ -3,7 +3,7 @@
 use Prim.Native.Nat.{ℕ, zero, suc, ◌+◌}
 use mathlib.Core.Path.{◌≡◌, refl, sym, ◌∙◌, subst}
 use mathlib.Core.Bool.{Bool, true, false, cond}
-use mathlib.Core.List.{[]}
+use Rattle.std.specs.Prelude.{Option, None, Some, List, []}
 use mathlib.Core.Logic.{◌⊎◌, inl, inr}
 use native.Mathlib.Omega.{arith}
 use lib.Dec.{eqb, ltb}
@@ -12,15 +12,14 @@ use Rattle.laws.specs.Refusals.{invalid_layout, bad_length}
 use Rattle.laws.specs.Answers.{gives, must}
 use Rattle.layout.specs.Layout.{valid_capacity, pages_in}
 use Rattle.store.specs.Store.{on_image, on_lengths}
-use Rattle.blackbox.specs.Record.{no_record}
 use Rattle.blackbox.specs.declared.FlightRecord.{FlightRecord}
-use Rattle.assembler.specs.Assembler.{no_page, stopped, without_ready, ready_page, taken}
+use Rattle.assembler.specs.Assembler.{stopped, without_ready, taken}
 use Rattle.assembler.proofs.Laws.{never}
 use Rattle.queue.specs.Queue.{dequeue, oldest, without_oldest, dequeued}
-use Rattle.log_state.specs.Writer.{with_assembler, fetching, fetched, written, beginning, begun, logged, stopped_into, added, ended, logging}
+use Rattle.log_state.specs.Writer.{has_pending, with_assembler, waiting_if, fetched, written, beginning, begun, logged, stopped_into, added, ended, logging}
 use Rattle.log_state.specs.declared.LogWriter.{LogWriter}
-use Rattle.log_writer.specs.Pass.{with_writer, halted, failing, put, severed, busy_now, logs, counted, taking_in, taking_record, programming, fetched_pass, turn}
-use Rattle.log_writer.specs.Pass.{turns, dropping_it, dropping, on_empty_queue, begin, drain_pass}
+use Rattle.log_writer.specs.Pass.{with_writer, halted, failing, put, severed, busy_now, logs, counted, taking_in, taking_record, programming}
+use Rattle.log_writer.specs.Pass.{fetched_pass, turn, turns, dropping_it, dropping, on_empty_queue, begin, drain_pass}
 use Rattle.log_writer.specs.Calls.{drain_told, drained}
 use Rattle.log_writer.specs.declared.Pass.{Pass}
 use Rattle.log_writer.specs.declared.DrainOrder.{DrainOrder}
@@ -33,17 +32,15 @@ use Rattle.log_laws.specs.Laws.{PagesCounted, DrainCounts}
 
 fetched_page : (w : LogWriter) → (fetched w).next_page ≡ w.next_page
 unfolding fetched taken
-fetched_page w = go w.has_pending w.assembler.page_ready
+fetched_page w = go (has_pending w) w.assembler.ready_page
   where
-    out : Bool → Bool → LogWriter
-    out x y =
-        cond x w
-        (fetching w (cond y (ready_page true w.assembler.ready_page (without_ready w.assembler)) (ready_page false no_page w.assembler)))
+    out : Bool → Option (List ℕ) → LogWriter
+    out x o = cond x w (waiting_if w (without_ready w.assembler) o)
 
-    go : (x y : Bool) → (out x y).next_page ≡ w.next_page
-    go true y = refl
-    go false true = refl
-    go false false = refl
+    go : (x : Bool) (o : Option (List ℕ)) → (out x o).next_page ≡ w.next_page
+    go true o = refl
+    go false (Some page) = refl
+    go false None = refl
 
 begun_page : (w : LogWriter) → (begun w).next_page ≡ w.next_page
 unfolding begun
@@ -69,21 +66,21 @@ logging_page w r false = ended_page w
 -- ---- what a step tells
 
 record Told (p q : Pass) : Type 0 where
-  pub programs : q.pages_written + q.succeed ≡ p.pages_written + p.succeed
-  pub rise : ((q.cut ≡ true) × (q.going ≡ false) × (q.succeed ≡ 0))
-      ⊎ ((q.cut ≡ p.cut) × (q.writer.next_page + p.pages_written ≡ p.writer.next_page + q.pages_written))
+  pub programs : q.progress.report.pages_written + q.progress.succeed ≡ p.progress.report.pages_written + p.progress.succeed
+  pub rise : ((q.progress.cut ≡ true) × (q.progress.going ≡ false) × (q.progress.succeed ≡ 0))
+      ⊎ ((q.progress.cut ≡ p.progress.cut) × (q.writer.next_page + p.progress.report.pages_written ≡ p.writer.next_page + q.progress.report.pages_written))
 
 record Idle (p q : Pass) : Type 0 where
-  pub pages : q.pages_written ≡ p.pages_written
-  pub succeeds : q.succeed ≡ p.succeed
-  pub cuts : q.cut ≡ p.cut
+  pub pages : q.progress.report.pages_written ≡ p.progress.report.pages_written
+  pub succeeds : q.progress.succeed ≡ p.progress.succeed
+  pub cuts : q.progress.cut ≡ p.progress.cut
   pub page : q.writer.next_page ≡ p.writer.next_page
 
 taking_idle : (order : DrainOrder) (p : Pass) → Idle p (taking_record order p)
 unfolding taking_record dequeued counted halted
 taking_idle order p = go (eqb p.queue.held 0)
   where
-    go : (z : Bool) → Idle p (taking_in order p (cond z (dequeue false no_record p.queue) (dequeue true (oldest p.queue) (without_oldest p.queue))))
+    go : (z : Bool) → Idle p (taking_in order p (cond z (dequeue None p.queue) (dequeue (Some (oldest p.queue)) (without_oldest p.queue))))
     go true = record { pages = refl; succeeds = refl; cuts = refl; page = refl }
     go false = record { pages = refl; succeeds = refl; cuts = refl; page = logging_page p.writer (oldest p.queue) (logs order (oldest p.queue)) }
 
@@ -91,13 +88,13 @@ halted_told : (p : Pass) → Told p (halted (fetched_pass p))
 unfolding halted with_writer
 halted_told p = record { programs = refl; rise = inr (refl, omega (arith, fetched_page p.writer)) }
 
-failing_told : (next : NextProgram) (p : Pass) → p.succeed ≡ 0 → Told p (failing next (fetched_pass p))
+failing_told : (next : NextProgram) (p : Pass) → p.progress.succeed ≡ 0 → Told p (failing next (fetched_pass p))
 unfolding put written severed with_writer
 failing_told Busy p e = halted_told p
 failing_told Fault p e = halted_told p
 failing_told Cut p e = record { programs = refl; rise = inl (refl, refl, e) }
 
-programming_told : (g : ℕ) (order : DrainOrder) (p : Pass) → g ≡ p.succeed → Told p (programming g order (fetched_pass p))
+programming_told : (g : ℕ) (order : DrainOrder) (p : Pass) → g ≡ p.progress.succeed → Told p (programming g order (fetched_pass p))
 unfolding put written severed with_writer
 programming_told zero order p e = failing_told order.next p (sym e)
 programming_told (suc g) order p e =
@@ -109,14 +106,14 @@ programming_told (suc g) order p e =
 
 turn_told : (pages : ℕ) (order : DrainOrder) (p : Pass) → Told p (turn pages order p)
 unfolding turn with_writer
-turn_told pages order p = go (fetched p.writer).has_pending (busy_now p.succeed order.next) (ltb (fetched p.writer).next_page pages)
+turn_told pages order p = go (has_pending (fetched p.writer)) (busy_now p.progress.succeed order.next) (ltb (fetched p.writer).next_page pages)
   where
     f : Pass
     f = fetched_pass p
 
-    go : (x y z : Bool) → Told p (cond x (cond y (halted f) (cond z (programming p.succeed order f) (halted f))) (taking_record order f))
+    go : (x y z : Bool) → Told p (cond x (cond y (halted f) (cond z (programming p.progress.succeed order f) (halted f))) (taking_record order f))
     go true true z = halted_told p
-    go true false true = programming_told p.succeed order p refl
+    go true false true = programming_told p.progress.succeed order p refl
     go true false false = halted_told p
     go false y z =
         let t = taking_idle order f in
@@ -125,15 +122,15 @@ turn_told pages order p = go (fetched p.writer).has_pending (busy_now p.succeed 
 told_same : (p : Pass) → Told p p
 told_same p = record { programs = refl; rise = inr (refl, refl) }
 
-told_then : (p q r : Pass) → Told p q → q.going ≡ true → Told q r → Told p r
+told_then : (p q r : Pass) → Told p q → q.progress.going ≡ true → Told q r → Told p r
 told_then p q r a on b = record { programs = b.programs ∙ a.programs; rise = both a.rise b.rise }
   where
-    both : ((q.cut ≡ true) × (q.going ≡ false) × (q.succeed ≡ 0))
-        ⊎ ((q.cut ≡ p.cut) × (q.writer.next_page + p.pages_written ≡ p.writer.next_page + q.pages_written))
-        → ((r.cut ≡ true) × (r.going ≡ false) × (r.succeed ≡ 0))
-        ⊎ ((r.cut ≡ q.cut) × (r.writer.next_page + q.pages_written ≡ q.writer.next_page + r.pages_written))
-        → ((r.cut ≡ true) × (r.going ≡ false) × (r.succeed ≡ 0))
-        ⊎ ((r.cut ≡ p.cut) × (r.writer.next_page + p.pages_written ≡ p.writer.next_page + r.pages_written))
+    both : ((q.progress.cut ≡ true) × (q.progress.going ≡ false) × (q.progress.succeed ≡ 0))
+        ⊎ ((q.progress.cut ≡ p.progress.cut) × (q.writer.next_page + p.progress.report.pages_written ≡ p.writer.next_page + q.progress.report.pages_written))
+        → ((r.progress.cut ≡ true) × (r.progress.going ≡ false) × (r.progress.succeed ≡ 0))
+        ⊎ ((r.progress.cut ≡ q.progress.cut) × (r.writer.next_page + q.progress.report.pages_written ≡ q.writer.next_page + r.progress.report.pages_written))
+        → ((r.progress.cut ≡ true) × (r.progress.going ≡ false) × (r.progress.succeed ≡ 0))
+        ⊎ ((r.progress.cut ≡ p.progress.cut) × (r.writer.next_page + p.progress.report.pages_written ≡ p.writer.next_page + r.progress.report.pages_written))
     both (inl h) k = never (sym h.1 ∙ on)
     both (inr h) (inl k) = inl k
     both (inr h) (inr k) = inr (k.0 ∙ h.0, omega (arith, h.1, k.1))
@@ -141,22 +138,22 @@ told_then p q r a on b = record { programs = b.programs ∙ a.programs; rise = b
 turns_told : (pages : ℕ) (order : DrainOrder) (n : ℕ) (p : Pass) → Told p (turns pages order n p)
 unfolding turns
 turns_told pages order zero p = told_same p
-turns_told pages order (suc n) p = step (turns_told pages order n (turn pages order p)) p.going
+turns_told pages order (suc n) p = step (turns_told pages order n (turn pages order p)) p.progress.going
   where
-    rest : Told (turn pages order p) (turns pages order n (turn pages order p)) → (z : Bool) → (turn pages order p).going ≡ z
+    rest : Told (turn pages order p) (turns pages order n (turn pages order p)) → (z : Bool) → (turn pages order p).progress.going ≡ z
         → Told p (turns pages order n (turn pages order p))
     rest ih true e = told_then p (turn pages order p) (turns pages order n (turn pages order p)) (turn_told pages order p) e ih
     rest ih false e = subst (Told p) (sym (still pages order [] n (turn pages order p) e)) (turn_told pages order p)
 
     step : Told (turn pages order p) (turns pages order n (turn pages order p)) → (z : Bool) → Told p (cond z (turns pages order n (turn pages order p)) p)
-    step ih true = rest ih (turn pages order p).going refl
+    step ih true = rest ih (turn pages order p).progress.going refl
     step ih false = told_same p
 
 drain_told_lem : (pages : ℕ) (order : DrainOrder) (p : Pass) → Told p (drain_pass pages order p)
 unfolding drain_pass dropping dequeued on_empty_queue counted
 drain_told_lem pages order p = go p.writer.writable (eqb p.queue.held 0) order.record_while_disarmed order.armed
   where
-    drops : (z : Bool) → Told p (dropping_it p (cond z (dequeue false no_record p.queue) (dequeue true (oldest p.queue) (without_oldest p.queue))))
+    drops : (z : Bool) → Told p (dropping_it p (cond z (dequeue None p.queue) (dequeue (Some (oldest p.queue)) (without_oldest p.queue))))
     drops true = told_same p
     drops false = record { programs = refl; rise = inr (refl, refl) }
 
@@ -179,13 +176,15 @@ drain_counts order c image keep w q = go (valid_capacity c) (eqb (length image) 
     t : Told (begin w q order.succeed) p
     t = drain_told_lem (pages_in c) order (begin w q order.succeed)
 
-    lives : ((p.cut ≡ true) × (p.going ≡ false) × (p.succeed ≡ 0)) ⊎ ((p.cut ≡ false) × (p.writer.next_page + 0 ≡ w.next_page + p.pages_written))
-        → p.cut ≡ false → p.writer.next_page ≡ w.next_page + p.pages_written
+    lives : ((p.progress.cut ≡ true) × (p.progress.going ≡ false) × (p.progress.succeed ≡ 0))
+        ⊎ ((p.progress.cut ≡ false) × (p.writer.next_page + 0 ≡ w.next_page + p.progress.report.pages_written))
+        → p.progress.cut ≡ false → p.writer.next_page ≡ w.next_page + p.progress.report.pages_written
     lives (inl h) e = never (sym e ∙ h.0)
     lives (inr h) e = omega (arith, h.1)
 
-    dies : ((p.cut ≡ true) × (p.going ≡ false) × (p.succeed ≡ 0)) ⊎ ((p.cut ≡ false) × (p.writer.next_page + 0 ≡ w.next_page + p.pages_written))
-        → p.cut ≡ true → p.pages_written ≡ order.succeed
+    dies : ((p.progress.cut ≡ true) × (p.progress.going ≡ false) × (p.progress.succeed ≡ 0))
+        ⊎ ((p.progress.cut ≡ false) × (p.writer.next_page + 0 ≡ w.next_page + p.progress.report.pages_written))
+        → p.progress.cut ≡ true → p.progress.report.pages_written ≡ order.succeed
     dies (inl h) e = omega (arith, h.2, t.programs)
     dies (inr h) e = never (sym h.0 ∙ e)
 

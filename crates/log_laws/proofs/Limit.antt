@@ -13,19 +13,18 @@ use Rattle.laws.specs.Refusals.{invalid_layout, bad_length}
 use Rattle.laws.specs.Answers.{Answer, gives, must}
 use Rattle.layout.specs.Layout.{valid_capacity, pages_in}
 use Rattle.store.specs.Store.{leaves, on_image, on_lengths, on_mask}
-use Rattle.blackbox.specs.Record.{no_record}
+use Rattle.std.specs.Prelude.{Option, None, Some}
 use Rattle.blackbox.specs.declared.FlightRecord.{FlightRecord}
 use Rattle.assembler.proofs.Laws.{never}
 use Rattle.queue.specs.Queue.{dequeue, oldest, without_oldest, dequeued, records_from}
 use Rattle.queue.specs.declared.RecordQueue.{RecordQueue}
 use Rattle.queue.specs.declared.Dequeued.{Dequeued}
-use Rattle.log_state.specs.Writer.{ended, logging}
-use Rattle.log_writer.specs.Pass.{with_writer, halted, failing, put, severed, busy_now, logs, counted, taking_record, programming, fetched_pass, turn}
-use Rattle.log_writer.specs.Pass.{turns, turns_image, dropping, on_empty_queue, begin, drain_pass, drain_image}
-use Rattle.log_writer.specs.Calls.{drain_told, drained, after_drain}
+use Rattle.log_state.specs.Writer.{has_pending, ended}
+use Rattle.log_writer.specs.Pass.{with_writer, halted, failing, put, severed, busy_now, counted, taking_if, taking_record, programming, fetched_pass, turn}
+use Rattle.log_writer.specs.Pass.{turns, turns_image, dropping_if, dropping, on_empty_queue, begin, drain_pass, drain_image}
+use Rattle.log_writer.specs.Calls.{DrainTold, drain_told, drained, after_drain}
 use Rattle.log_writer.specs.declared.Pass.{Pass}
 use Rattle.log_writer.specs.declared.DrainOrder.{DrainOrder}
-use Rattle.log_writer.specs.declared.DrainAnswer.{DrainAnswer}
 use Rattle.log_writer.specs.declared.NextProgram.{NextProgram}
 use Rattle.log_writer.specs.declared.NextProgram.TheVariants.{Busy, Fault, Cut}
 use Rattle.log_laws.specs.Laws.{Taken, most_taken, DrainTakesAtMost, limited, NoneHeld, AtAnyLimit, LimitOfNone}
@@ -48,7 +47,8 @@ taken_then n a b c x y =
       others = y.others ∙ ap (drop y.count) x.others ∙ drop-drop y.count x.count _;
     }
 
-left_behind : (slots : List FlightRecord) (first held : ℕ) → (held ≡ 0 → ⊥) → records_from slots ((first + 1) % 32) (held - 1) ≡ drop 1 (records_from slots first held)
+left_behind : (slots : List FlightRecord) (first held : ℕ) → (held ≡ 0 → ⊥)
+    → records_from slots ((first + 1) % 32) (held - 1) ≡ drop 1 (records_from slots first held)
 left_behind slots first zero h = absurd (h refl)
 left_behind slots first (suc n) h = let less : suc n - 1 ≡ n = omega arith in ap (records_from slots ((first + 1) % 32)) less
 
@@ -56,7 +56,7 @@ one_taken : (q : RecordQueue) → Taken 1 q (dequeued q).queue
 unfolding dequeued without_oldest
 one_taken q = go (eqb q.held 0) refl
   where
-    go : (z : Bool) → eqb q.held 0 ≡ z → Taken 1 q (cond z (dequeue false no_record q) (dequeue true (oldest q) (without_oldest q))).queue
+    go : (z : Bool) → eqb q.held 0 ≡ z → Taken 1 q (cond z (dequeue None q) (dequeue (Some (oldest q)) (without_oldest q))).queue
     go true e = none_taken 1 q
     go false e =
         let some : q.held ≡ 0 → ⊥ = λ n. never (sym e ∙ eq-eqb q.held 0 n) in
@@ -65,10 +65,10 @@ one_taken q = go (eqb q.held 0) refl
 -- ---- what a step takes, if the power isn't cut
 
 record Steps (n : ℕ) (p q : Pass) : Type 0 where
-  pub uncut : q.cut ≡ false → p.cut ≡ false
-  pub takes : q.cut ≡ false → Taken n p.queue q.queue
+  pub uncut : q.progress.cut ≡ false → p.progress.cut ≡ false
+  pub takes : q.progress.cut ≡ false → Taken n p.queue q.queue
 
-still : (n : ℕ) (p q : Pass) → q.cut ≡ p.cut → q.queue ≡ p.queue → Steps n p q
+still : (n : ℕ) (p q : Pass) → q.progress.cut ≡ p.progress.cut → q.queue ≡ p.queue → Steps n p q
 still n p q c e = record { uncut = λ h. sym c ∙ h; takes = λ _. rw e (none_taken n p.queue) }
 
 within : (m n : ℕ) (p q : Pass) → m ≤ n → Steps m p q → Steps n p q
@@ -83,14 +83,14 @@ steps_then n p q r x y =
 
 taking_steps : (order : DrainOrder) (p : Pass) → Steps 1 p (taking_record order p)
 unfolding taking_record counted halted
-taking_steps order p = go d.there
+taking_steps order p = go d.«record»
   where
     d : Dequeued
     d = dequeued p.queue
 
-    go : (z : Bool) → Steps 1 p (cond z (counted p d.queue (logging p.writer d.«record» (logs order d.«record»))) (halted p))
-    go true = record { uncut = λ h. h; takes = λ _. one_taken p.queue }
-    go false = still 1 p (halted p) refl refl
+    go : (o : Option FlightRecord) → Steps 1 p (taking_if order p d.queue o)
+    go (Some r) = record { uncut = λ h. h; takes = λ _. one_taken p.queue }
+    go None = still 1 p (halted p) refl refl
 
 failing_steps : (next : NextProgram) (p : Pass) → Steps 1 p (failing next p)
 unfolding halted severed
@@ -107,7 +107,7 @@ programming_steps (suc g) order p =
 
 turn_steps : (pages : ℕ) (order : DrainOrder) (p : Pass) → Steps 1 p (turn pages order p)
 unfolding turn with_writer halted
-turn_steps pages order p = go f.writer.has_pending (busy_now p.succeed order.next) (ltb f.writer.next_page pages)
+turn_steps pages order p = go (has_pending f.writer) (busy_now p.progress.succeed order.next) (ltb f.writer.next_page pages)
   where
     f : Pass
     f = fetched_pass p
@@ -115,16 +115,16 @@ turn_steps pages order p = go f.writer.has_pending (busy_now p.succeed order.nex
     from : (q : Pass) → Steps 1 f q → Steps 1 p q
     from q s = record { uncut = s.uncut; takes = s.takes }
 
-    go : (x y z : Bool) → Steps 1 p (cond x (cond y (halted f) (cond z (programming p.succeed order f) (halted f))) (taking_record order f))
+    go : (x y z : Bool) → Steps 1 p (cond x (cond y (halted f) (cond z (programming p.progress.succeed order f) (halted f))) (taking_record order f))
     go true true z = still 1 p (halted f) refl refl
-    go true false true = from (programming p.succeed order f) (programming_steps p.succeed order f)
+    go true false true = from (programming p.progress.succeed order f) (programming_steps p.progress.succeed order f)
     go true false false = still 1 p (halted f) refl refl
     go false y z = from (taking_record order f) (taking_steps order f)
 
 turns_steps : (pages : ℕ) (order : DrainOrder) (n : ℕ) (p : Pass) → Steps n p (turns pages order n p)
 unfolding turns
 turns_steps pages order zero p = still 0 p p refl refl
-turns_steps pages order (suc n) p = go (turns_steps pages order n (turn pages order p)) p.going
+turns_steps pages order (suc n) p = go (turns_steps pages order n (turn pages order p)) p.progress.going
   where
     rest : Pass
     rest = turns pages order n (turn pages order p)
@@ -140,9 +140,9 @@ drain_steps pages order p = go p.writer.writable (eqb p.queue.held 0) order.reco
     d : Dequeued
     d = dequeued p.queue
 
-    drops : (z : Bool) → d.there ≡ z → Steps 1 p (dropping p)
-    drops true e = rw e (record { uncut = λ h. h; takes = λ _. one_taken p.queue })
-    drops false e = rw e (still 1 p p refl refl)
+    drops : (o : Option FlightRecord) → Steps 1 p (dropping_if p d.queue o)
+    drops (Some r) = record { uncut = λ h. h; takes = λ _. one_taken p.queue }
+    drops None = still 1 p p refl refl
 
     go : (x y u v : Bool)
         → Steps (most_taken x order.limit) p
@@ -151,7 +151,7 @@ drain_steps pages order p = go p.writer.writable (eqb p.queue.held 0) order.reco
     go true true false true = still _ p p refl refl
     go true true false false = still _ p (counted p p.queue (ended p.writer)) refl refl
     go true false u v = within order.limit _ p (turns pages order order.limit p) (omega arith) (turns_steps pages order order.limit p)
-    go false y u v = within 1 _ p (dropping p) (omega arith) (drops d.there refl)
+    go false y u v = within 1 _ p (dropping p) (omega arith) (drops d.«record»)
 
 -- ---- the call
 
@@ -257,7 +257,7 @@ limit_of_none order c image keep w q l e n =
     some : eqb q.held 0 ≡ false
     some = ne_eqb q.held 0 (λ z. n (omega (arith, z)))
 
-    told : Pass → DrainAnswer
+    told : Pass → DrainTold
     told r = drain_told w q (on_mask c (length image) (length keep) (gives r))
 
     idle : drain_pass (pages_in c) order p ≡ p

@@ -1,20 +1,21 @@
 -- Drain and write_pending touch only pages of the log: each program touches its own page, which lies there. Assumes nothing.
 use Prim.Native.Nat.{ℕ, zero, suc, ◌+◌, ◌*◌, ◌≤◌, ◌<◌}
-use mathlib.Core.Path.{◌≡◌, refl, ◌∙◌}
+use mathlib.Core.Path.{◌≡◌, refl, ap, ◌∙◌}
 use mathlib.Core.Bool.{Bool, true, false, cond}
-use mathlib.Core.List.{List}
+use Rattle.std.specs.Prelude.{Option, None, Some, IfSome, unwrap_or, List, []}
 use native.Mathlib.Omega.{arith}
 use borrow.Author.Tests.{eqb-true, ltb-true}
 use lib.Dec.{eqb, ltb}
-use lib.ListN.{length}
+use lib.ListN.{length, take, drop}
+use Rattle.std.proofs.Common.{take-append-drop, ◌++◌}
 use Rattle.laws.specs.Refusals.{invalid_layout, bad_length}
 use Rattle.laws.specs.Answers.{gives, must}
 use Rattle.layout.specs.Layout.{log_start, valid_capacity, pages_in, page_at}
 use Rattle.layout.proofs.Capacity.{valid}
-use Rattle.store.specs.Store.{leaves, mask, on_image, on_lengths}
+use Rattle.store.specs.Store.{leaves, mask, on_image, on_lengths, programmed_bytes, programmed}
 use Rattle.store.specs.Laws.{OnlyAt}
 use Rattle.store.proofs.Laws.{only_its_bytes}
-use Rattle.log_state.specs.Writer.{fetched, fetched_if_writable}
+use Rattle.log_state.specs.Writer.{has_pending, fetched, fetched_if_writable}
 use Rattle.log_state.specs.WellFormed.{SoundWriter}
 use Rattle.log_state.specs.declared.LogWriter.{LogWriter}
 use Rattle.log_state.proofs.Sound.{fetched_sound, fetched_if_sound}
@@ -62,13 +63,27 @@ only_wider pages i m m' l x =
     inside : i * 256 + 256 ≤ pages * 256
     inside = omega arith
 
+-- no byte programmed
+none_programmed : (image : List ℕ) (at : ℕ) (keep : List ℕ) → programmed image at [] keep ≡ image
+unfolding programmed programmed_bytes
+none_programmed image at keep = let e : at + 0 ≡ at = omega arith in ap (λ (k : ℕ). take at image ++ drop k image) e ∙ take-append-drop at image
+
 -- a program of the page that waits
 module _ (pages : ℕ) (image : List ℕ) (room : log_start + pages * 256 ≤ length image) (w : LogWriter) (s : SoundWriter w) (l : w.next_page < pages) where
   programmed_only : (keep : List ℕ) → OnlyAt log_start (pages * 256) image (programmed_page image w keep)
-  programmed_only keep =
-      let inside : w.next_page * 256 + 256 ≤ pages * 256 = omega arith in
-      only_wider pages w.next_page image (programmed_page image w keep) l
-      (rw s.page at (only_its_bytes image (page_at w.next_page) w.pending keep (omega (arith, s.page))))
+  programmed_only keep = go w.pending s.page
+    where
+      inside : w.next_page * 256 + 256 ≤ pages * 256
+      inside = omega arith
+
+      go : (o : Option (List ℕ)) → IfSome o (λ page. length page ≡ 256)
+          → OnlyAt log_start (pages * 256) image (programmed image (page_at w.next_page) (unwrap_or o []) keep)
+      go None h =
+          let e : programmed image (page_at w.next_page) [] keep ≡ image = none_programmed image (page_at w.next_page) keep in
+          rw e (only_same log_start (pages * 256) image)
+      go (Some page) h =
+          only_wider pages w.next_page image (programmed image (page_at w.next_page) page keep) l
+          (rw h at (only_its_bytes image (page_at w.next_page) page keep (omega (arith, h))))
 
 -- ---- turn by turn
 
@@ -76,17 +91,17 @@ pub turn_only : (pages : ℕ) (order : DrainOrder) (keep : List ℕ) (p : Pass) 
     → OnlyAt log_start (pages * 256) image (turn_image pages order keep p image)
 unfolding turn_image with_writer
 turn_only pages order keep p image s room =
-    go (fetched p.writer).has_pending (busy_now p.succeed order.next) (ltb (fetched p.writer).next_page pages) refl
+    go (has_pending (fetched p.writer)) (busy_now p.progress.succeed order.next) (ltb (fetched p.writer).next_page pages) refl
   where
     after : List ℕ
-    after = programmed_page image (fetched p.writer) (kept_by p.succeed keep)
+    after = programmed_page image (fetched p.writer) (kept_by p.progress.succeed keep)
 
     go : (x y z : Bool) → ltb (fetched p.writer).next_page pages ≡ z
         → OnlyAt log_start (pages * 256) image (cond x (cond y image (cond z after image)) image)
     go true true z e = only_same log_start (pages * 256) image
     go true false true e =
         programmed_only pages image room (fetched p.writer) (fetched_sound p.writer s.sound) (ltb-true (fetched p.writer).next_page pages e)
-        (kept_by p.succeed keep)
+        (kept_by p.progress.succeed keep)
     go true false false e = only_same log_start (pages * 256) image
     go false y z e = only_same log_start (pages * 256) image
 
@@ -95,7 +110,7 @@ turns_only : (pages : ℕ) (order : DrainOrder) (keep : List ℕ) (n : ℕ) (p :
 unfolding turns_image
 turns_only pages order keep zero p image s room = only_same log_start (pages * 256) image
 turns_only pages order keep (suc n) p image s room =
-    go (turns_only pages order keep n (turn pages order p) after (turn_sound pages order p s) (omega (arith, once.long))) p.going
+    go (turns_only pages order keep n (turn pages order p) after (turn_sound pages order p s) (omega (arith, once.long))) p.progress.going
   where
     after : List ℕ
     after = turn_image pages order keep p image
@@ -156,7 +171,7 @@ write_only_log c image keep next w q succeed s = go (valid_capacity c) (eqb (len
 
     go : (x y z : Bool) → valid_capacity c ≡ x → eqb (length image) c ≡ y
         → OnlyAt log_start (pages_in c * 256) image (leaves image (must x invalid_layout (must y bad_length (must z bad_length (gives after)))))
-    go true true true e l = inner (omega (arith, has_room c e, eqb-true (length image) c l)) v.has_pending (ltb v.next_page (pages_in c)) refl
+    go true true true e l = inner (omega (arith, has_room c e, eqb-true (length image) c l)) (has_pending v) (ltb v.next_page (pages_in c)) refl
     go true true false e l = only_same log_start (pages_in c * 256) image
     go true false z e l = only_same log_start (pages_in c * 256) image
     go false y z e l = only_same log_start (pages_in c * 256) image

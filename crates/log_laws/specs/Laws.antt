@@ -1,25 +1,32 @@
 -- What document 01 says of drain and write_pending beyond each call's own answer, as statements; proofs/ shows them.
 use Rattle.std.specs.Prelude.{ℕ, ◌+◌, ◌*◌, ◌≤◌, ◌≡◌, Bool, true, false, cond, List, ◌⊎◌, drop}
+use Rattle.laws.specs.Answers.{Answer, gives, refuses}
 use Rattle.layout.specs.Layout.{log_start, pages_in}
 use Rattle.store.specs.Laws.{OnlyAt}
+use Rattle.assembler.specs.Assembler.{page_ready}
 use Rattle.queue.specs.Queue.{records_held}
 use Rattle.queue.specs.declared.RecordQueue.{RecordQueue}
+use Rattle.log_state.specs.Writer.{has_pending}
 use Rattle.log_state.specs.declared.LogWriter.{LogWriter}
 use Rattle.log_writer.specs.Pass.{drain_order}
-use Rattle.log_writer.specs.Calls.{drained, after_drain, page_written, after_write}
+use Rattle.log_writer.specs.Calls.{DrainTold, drained, after_drain, WriteTold, page_written, after_write}
 use Rattle.log_writer.specs.Laws.{BothSound}
 use Rattle.log_writer.specs.declared.DrainOrder.{DrainOrder}
 use Rattle.log_writer.specs.declared.NextProgram.{NextProgram}
-use Rattle.log_writer.specs.declared.DrainAnswer.{DrainAnswer}
-use Rattle.log_writer.specs.declared.WriteAnswer.{WriteAnswer}
+use Rattle.log_writer.specs.declared.DrainReport.{DrainReport}
 use Rattle.log_writer.specs.declared.PageWrite.TheVariants.{RegionFull, ProgramFailed}
 
 -- ---- pages_written
 
+-- the pages of a report; of a refused drain none
+abbrev pub pages_reported : Answer DrainReport → ℕ
+pages_reported (gives r) = r.pages_written
+pages_reported (refuses number fault) = 0
+
 -- "a made-up pages_written, which must equal the rise of next_page or, in a cut, the programs that succeeded"
-pub record PagesCounted (w : LogWriter) (succeed : ℕ) (answer : DrainAnswer) : Type 0 where
-  pub alive : answer.cut ≡ false → answer.writer.next_page ≡ w.next_page + answer.report.pages_written
-  pub cut : answer.cut ≡ true → answer.report.pages_written ≡ succeed
+pub record PagesCounted (w : LogWriter) (succeed : ℕ) (answer : DrainTold) : Type 0 where
+  pub alive : answer.cut ≡ false → answer.writer.next_page ≡ w.next_page + pages_reported answer.report
+  pub cut : answer.cut ≡ true → pages_reported answer.report ≡ succeed
 
 abbrev pub DrainCounts : Type 0
 DrainCounts =
@@ -87,15 +94,15 @@ pub record Unaltered (w v : LogWriter) (q u : RecordQueue) (before after : List 
 
 abbrev pub DrainRefused : Type 0
 DrainRefused =
-    (order : DrainOrder) (capacity : ℕ) (image keep : List ℕ) (w : LogWriter) (q : RecordQueue)
-    → ((drained order capacity image keep w q).refused ≡ 0 → ⊥)
+    (order : DrainOrder) (capacity : ℕ) (image keep : List ℕ) (w : LogWriter) (q : RecordQueue) (number fault : ℕ)
+    → (drained order capacity image keep w q).report ≡ refuses number fault
     → Unaltered w (drained order capacity image keep w q).writer q (drained order capacity image keep w q).queue image
     (after_drain order capacity image keep w q)
 
 abbrev pub WriteRefused : Type 0
 WriteRefused =
-    (capacity : ℕ) (image keep : List ℕ) (next : NextProgram) (w : LogWriter) (q : RecordQueue) (succeed : ℕ)
-    → ((page_written capacity image keep next w q succeed).refused ≡ 0 → ⊥)
+    (capacity : ℕ) (image keep : List ℕ) (next : NextProgram) (w : LogWriter) (q : RecordQueue) (succeed number fault : ℕ)
+    → (page_written capacity image keep next w q succeed).outcome ≡ refuses number fault
     → Unaltered w (page_written capacity image keep next w q succeed).writer q
     (page_written capacity image keep next w q succeed).queue image (after_write capacity image keep next w succeed)
 
@@ -104,20 +111,20 @@ WriteRefused =
 -- the page that waits is the one that waited before, or else the one that was ready
 abbrev pub SamePage : LogWriter → LogWriter → Type 0
 SamePage w v =
-    ((w.has_pending ≡ true) × (v.pending ≡ w.pending))
-    ⊎ ((w.has_pending ≡ false) × (w.assembler.page_ready ≡ true) × (v.pending ≡ w.assembler.ready_page))
+    ((has_pending w ≡ true) × (v.pending ≡ w.pending))
+    ⊎ ((has_pending w ≡ false) × (page_ready w.assembler ≡ true) × (v.pending ≡ w.assembler.ready_page))
 
-pub record KeepsWaiting (w : LogWriter) (answer : WriteAnswer) : Type 0 where
-  pub not_refused : answer.refused ≡ 0
-  pub waits : answer.writer.has_pending ≡ true
+pub record KeepsWaiting (w : LogWriter) (answer : WriteTold) : Type 0 where
+  pub not_refused : (number fault : ℕ) → answer.outcome ≡ refuses number fault → ⊥
+  pub waits : has_pending answer.writer ≡ true
   pub page : SamePage w answer.writer
 
 -- "RegionFull and ProgramFailed are outcomes of write_pending, not refusals; both keep the page waiting."
 abbrev pub FailureKeepsWaiting : Type 0
 FailureKeepsWaiting =
     (capacity : ℕ) (image keep : List ℕ) (next : NextProgram) (w : LogWriter) (q : RecordQueue) (succeed : ℕ)
-    → ((page_written capacity image keep next w q succeed).outcome ≡ RegionFull)
-    ⊎ ((page_written capacity image keep next w q succeed).outcome ≡ ProgramFailed)
+    → ((page_written capacity image keep next w q succeed).outcome ≡ gives RegionFull)
+    ⊎ ((page_written capacity image keep next w q succeed).outcome ≡ gives ProgramFailed)
     → KeepsWaiting w (page_written capacity image keep next w q succeed)
 
 -- ---- a limit of 0

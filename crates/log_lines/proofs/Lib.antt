@@ -1,4 +1,2 @@
-pub mod Growing
-pub mod Listing
-pub mod Acks
 pub mod Fits
+pub mod Listing

@@ -1,7 +1,7 @@
 -- Whole pages stay and records are only added behind: over one program of a page that waits, and over many. Assumes nothing.
 use Prim.Native.Nat.{ℕ, ◌<◌}
 use mathlib.Core.Path.{◌≡◌, refl, sym, ap, ◌∙◌}
-use mathlib.Core.Option.{Option, none, some}
+use Rattle.std.specs.Prelude.{Option, None, Some}
 use mathlib.Core.Logic.{inl, inr}
 use mathlib.Core.List.{List, [], ◌∷◌, ◌++◌, append_assoc, append-nil}
 use native.Mathlib.Omega.{arith}
@@ -52,7 +52,7 @@ module _ {Page Record Mask : Type 0} (S : PageStore Page Record Mask) (L : Lawfu
     program_adds tail = record { as_long = length-set l nx (programmed_cell S l nx page keep); stays = stays; added = added (S.decode cell) refl }
       where
         -- the cell decodes only if it is the page itself
-        same : (c : Decoded Record) → Whole S cell c → Undecoded S (some (page, cell)) → S.programmed cell page keep ≡ cell
+        same : (c : Decoded Record) → Whole S cell c → Undecoded S (Some (page, cell)) → S.programmed cell page keep ≡ cell
         same c d (inl y) = absurd (none_some y d)
         same c d (inr y) = rw y (L.program_self page keep)
 
@@ -71,7 +71,7 @@ module _ {Page Record Mask : Type 0} (S : PageStore Page Record Mask) (L : Lawfu
 
         added : (d : Option (Decoded Record)) → S.decode cell ≡ d
             → (more : List (ℕ × Record)) × (records_on S (programmed_at S l nx page keep) ≡ records_on S l ++ more)
-        added none d = (
+        added None d = (
           records_of S (S.decode (S.programmed cell page keep)),
           rw program_at (records_append S L base (S.programmed cell page keep ∷ rest) ∙ rw (behind, append-nil) (sym unread)),
         )
@@ -79,4 +79,4 @@ module _ {Page Record Mask : Type 0} (S : PageStore Page Record Mask) (L : Lawfu
             unread : records_on S l ++ records_of S (S.decode (S.programmed cell page keep)) ≡ records_on S base ++ records_of S
                 (S.decode (S.programmed cell page keep))
             unread = rw (e, records_append S L base (cell ∷ rest), d, behind, append-nil (records_on S base)) refl
-        added (some c) d = ([], rw (program_at, same c d tail.1, ← e) (sym (append-nil (records_on S l))))
+        added (Some c) d = ([], rw (program_at, same c d tail.1, ← e) (sym (append-nil (records_on S l))))

@@ -1,10 +1,11 @@
 -- What two boards logged alike is explained on flash. Assumes nothing.
-use Prim.Native.Nat.{ℕ, suc, ◌+◌, ◌≤◌, ◌<◌}
+use Prim.Native.Nat.{ℕ, ◌+◌, ◌≤◌, ◌<◌}
 use mathlib.Core.Path.{◌≡◌, refl, sym, ap, ◌∙◌}
 use mathlib.Core.Bool.{Bool}
-use mathlib.Core.List.{List, [], ◌∷◌, ◌++◌}
+use mathlib.Core.List.{List, [], ◌∷◌}
 use native.Mathlib.Omega.{arith}
 use lib.ListN.{length}
+use Rattle.std.proofs.lemmas.List.{map-append, length-map}
 use Rattle.power.specs.Pages.{PageStore, Each, last_per_page, most_lost}
 use Rattle.power.specs.Lawful.{Lawful}
 use Rattle.power.specs.Reading.{records_on}
@@ -15,14 +16,6 @@ use Rattle.power.specs.Boards.{Behind, seen, each_seen, Aligned}
 use Rattle.power.specs.Boards.{AtMost, TwoPowerOns, segments_of, Explained, ExplainedFromErased, NearAll, Lacks}
 use Rattle.power.proofs.Segments.{segments_from_erased}
 use Rattle.power.proofs.Aligned.{near_fronts, logs_aligned, logs_paired}
-
-seen_append : {A B : Type 0} (view : A → B) (xs ys : List A) → seen view (xs ++ ys) ≡ seen view xs ++ seen view ys
-seen_append view [] ys = refl
-seen_append {A} {B} view (x ∷ xs) ys = ap {B = List B} (λ l. view x ∷ l) (seen_append view xs ys)
-
-seen_long : {A B : Type 0} (view : A → B) (xs : List A) → length (seen view xs) ≡ length xs
-seen_long view [] = refl
-seen_long view (x ∷ xs) = ap suc (seen_long view xs)
 
 pub filled_seen : {A B : Type 0} (view : A → B) (parts : List (List A)) → filled (each_seen view parts) ≡ each_seen view (filled parts)
 filled_seen view [] = refl
@@ -42,8 +35,8 @@ module _ {Page Record Mask : Type 0} (S : PageStore Page Record Mask) (L : Lawfu
     kept_behind logged kept h =
         record {
           more = seen view h.lost;
-          few = omega (arith, seen_long view h.lost, h.short, at_most logged);
-          all = ap (seen view) h.all ∙ seen_append view kept h.lost;
+          few = omega (arith, length-map h.lost view, h.short, at_most logged);
+          all = ap (seen view) h.all ∙ map-append view kept h.lost;
         }
 
     kept_lacks : (hist parts : List (List (ℕ × Record))) → KeptParts S hist parts → Lacks most (each_seen view hist) (each_seen view parts)

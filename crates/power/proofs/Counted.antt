@@ -3,7 +3,7 @@
 use Prim.Native.Nat.{ℕ, zero, suc, ◌+◌}
 use mathlib.Core.Path.{◌≡◌, refl, sym, ap, ◌∙◌}
 use mathlib.Core.Bool.{Bool, true, false, false≢true}
-use mathlib.Core.Option.{Option, none, some}
+use Rattle.std.specs.Prelude.{Option, None, Some}
 use mathlib.Core.Logic.{◌⊎◌, inl, inr}
 use mathlib.Core.List.{List, [], ◌∷◌}
 use native.Mathlib.Omega.{arith}
@@ -94,8 +94,8 @@ module _ {Page Record Mask : Type 0} (S : PageStore Page Record Mask) where
       go (inr h) = inr (omega (arith, unasked_none g z h.0, e, f.written))
 
   counts_one : (o : Option Page) (p : Pass S) → Counts p (write_one S o p)
-  counts_one none p = counts_none p
-  counts_one (some page) p =
+  counts_one None p = counts_none p
+  counts_one (Some page) p =
       counts_wrote p.succeed p.next p refl (program_if_room S (unasked S p.succeed p.next) p.next page p)
       (room_facts S (unasked S p.succeed p.next) p.next page p)
 
@@ -122,8 +122,8 @@ module _ {Page Record Mask : Type 0} (S : PageStore Page Record Mask) where
 
   -- write_pending logs nothing, and neither does drain on a log that isn't writable
   one_logs : (o : Option Page) (p : Pass S) → (write_one S o p).logged ≡ p.logged
-  one_logs none p = refl
-  one_logs (some page) p =
+  one_logs None p = refl
+  one_logs (Some page) p =
       go (program_if_room S (unasked S p.succeed p.next) p.next page p) (room_facts S (unasked S p.succeed p.next) p.next page p)
     where
       go : (t : Step S) → StepFacts S (unasked S p.succeed p.next) p t → (ended_with S t).logged ≡ p.logged

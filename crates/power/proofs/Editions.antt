@@ -7,6 +7,7 @@ use mathlib.Core.List.{List, [], ◌∷◌, ◌++◌}
 use native.Mathlib.Omega.{arith}
 use native.Mathlib.Decide.{dec_lt}
 use lib.ListN.{length, get_or-eq_default}
+use Rattle.std.proofs.lemmas.Option.{same_Some}
 use Rattle.power.specs.Pages.{Decoded, PageStore, Each, Packs}
 use Rattle.power.specs.Lawful.{Lawful}
 use Rattle.power.specs.Reading.{Whole, Torn, page_at}
@@ -14,7 +15,7 @@ use Rattle.power.specs.Grammar.{Ending, unused, ended, frayed, foreign, torn_mor
 use Rattle.power.specs.Grammar.{Follows, nothing_used, whole_page, torn_page, Strict}
 use Rattle.power.specs.Claims.{AllOf, OneEdition}
 use Rattle.power.specs.Theorem.{OneEditionFromErased}
-use Rattle.power.proofs.Used.{none_some, some_is, length_snoc, at_left, at_snoc, at_all}
+use Rattle.power.proofs.Used.{none_some, length_snoc, at_left, at_snoc, at_all}
 use Rattle.power.proofs.Theorem.{strict_from_erased}
 
 module _ {Page Record Mask : Type 0} (S : PageStore Page Record Mask) (L : Lawful S) where
@@ -108,7 +109,7 @@ module _ {Page Record Mask : Type 0} (S : PageStore Page Record Mask) (L : Lawfu
       own = all_of s.edition content.rows s.packs.each
 
       is : {c : Decoded Record} → Whole S page c → c ≡ content
-      is w = some_is (sym w ∙ d)
+      is w = same_Some _ _ (sym w ∙ d)
 
       below : (i : ℕ) (c : Decoded Record) → Whole S (page_at S pages i) c ⊎ Whole S page c → c.flight ≤ content.flight
       below i c (inl w) =

@@ -3,7 +3,7 @@
 use Prim.Native.Nat.{ℕ, suc, ◌≤◌, ◌<◌}
 use mathlib.Core.Path.{◌≡◌, refl, sym, ap, ◌∙◌}
 use mathlib.Core.Bool.{Bool, true, false, cond, false≢true}
-use mathlib.Core.Option.{some}
+use Rattle.std.specs.Prelude.{Some}
 use mathlib.Core.Logic.{inl, inr}
 use mathlib.Core.List.{List, [], ◌∷◌, ◌++◌, append_assoc, append-nil}
 use native.Mathlib.Decide.{ℕ_discrete}
@@ -11,6 +11,7 @@ use native.Mathlib.Omega.{arith}
 use lib.Dec.{ltb}
 use lib.ListN.{length, length-append, take, length-set}
 use lib.Seq.{append_snoc, take-append-le, get_or-set_other}
+use Rattle.std.proofs.lemmas.List.{map-append}
 use Rattle.power.specs.Pages.{PageStore, in_flight, Packs, full}
 use Rattle.power.specs.Lawful.{Lawful}
 use Rattle.power.specs.Reading.{Blanks, Torn, page_at}
@@ -27,10 +28,6 @@ use Rattle.power.proofs.Invariant.{Inv, base_long, turned, passed, held_content,
 use Rattle.power.proofs.Adds.{cell_there, cell_is, program_at, program_adds}
 use Rattle.power.proofs.Packing.{lost_few, full_none, packs_none, packs_more, short_none}
 use Rattle.power.proofs.TornCount.{torn_append, torn_whole, torn_below, torn_here, torn_at_least, torn_not, torn_below_next, Ends, blanks_front}
-
-pub in_flight_append : {Record : Type 0} (f : ℕ) (xs ys : List Record) → in_flight f (xs ++ ys) ≡ in_flight f xs ++ in_flight f ys
-in_flight_append f [] ys = refl
-in_flight_append {Record} f (x ∷ xs) ys = ap {B = List (ℕ × Record)} (λ l. (f, x) ∷ l) (in_flight_append f xs ys)
 
 pub snoc_some : {A : Type 0} (xs : List A) (x : A) → ¬ (xs ++ x ∷ [] ≡ [])
 snoc_some xs x e = omega (arith, length_snoc xs x, ap length e)
@@ -133,7 +130,7 @@ module _ {Page Record Mask : Type 0} (S : PageStore Page Record Mask) (L : Lawfu
         (wrote_stands recording i.stands.filled)
 
     -- or not to its end: the page stays waiting
-    pub keep_failed : (keep : Mask) → Undecoded S (some (page, programmed_cell S l nx page keep))
+    pub keep_failed : (keep : Mask) → Undecoded S (Some (page, programmed_cell S l nx page keep))
         → Inv S L G (programmed_at S l nx page keep) (holding f sq e recording page) nx nf past now
     keep_failed keep un =
         record {
@@ -158,7 +155,7 @@ module _ {Page Record Mask : Type 0} (S : PageStore Page Record Mask) (L : Lawfu
         here : programmed_cell S l nx page keep ≡ S.programmed cell page keep
         here = ap (λ (c : Page). S.programmed c page keep) (cell_is S L l i.base rest cell page nx keep log_is i.stands.here)
 
-        unread : Undecoded S (some (page, programmed_cell S l nx page keep)) → Undecoded S (some (page, S.programmed cell page keep))
+        unread : Undecoded S (Some (page, programmed_cell S l nx page keep)) → Undecoded S (Some (page, S.programmed cell page keep))
         unread (inl d) = inl (ap S.decode (sym here) ∙ d)
         unread (inr d) = inr (sym here ∙ d)
 
@@ -287,7 +284,7 @@ module _ {Page Record Mask : Type 0} (S : PageStore Page Record Mask) (L : Lawfu
         packs = packs_more S L e rows r w.packs w.unfilled fits joins
 
         said : now ++ (f, r) ∷ [] ≡ i.kept ++ in_flight f (rows ++ r ∷ [])
-        said = rw (i.logged, w.memory, in_flight_append f rows (r ∷ [])) (append_assoc i.kept (in_flight f rows) ((f, r) ∷ []))
+        said = rw (i.logged, w.memory, map-append {B = ℕ × Record} (λ (r : Record). (f, r)) rows (r ∷ [])) (append_assoc i.kept (in_flight f rows) ((f, r) ∷ []))
 
         step : (q : Bool) → full S e (rows ++ r ∷ []) ≡ q → Inv S L G l (pushed_phase S L f s e (rows ++ r ∷ [])) nx nf past (now ++ (f, r) ∷ [])
         step false q =

@@ -5,7 +5,7 @@
 use Prim.Native.Nat.{ℕ, suc, ◌+◌, ◌≤◌, ◌<◌}
 use mathlib.Core.Path.{◌≡◌, refl, sym, ap, ◌∙◌}
 use mathlib.Core.Bool.{Bool, true, false}
-use mathlib.Core.Option.{none, some}
+use Rattle.std.specs.Prelude.{None, Some}
 use mathlib.Core.Logic.{◌⊎◌, inl, inr}
 use mathlib.Core.List.{List, [], ◌∷◌, ◌++◌, append_assoc, append-nil}
 use native.Mathlib.Omega.{arith}
@@ -33,7 +33,7 @@ module _ {Page Record Mask : Type 0} (S : PageStore Page Record Mask) (L : Lawfu
   -- the pages behind the used ones, while a page waits: its cell becomes the page when it is programmed, and doesn't decode before
   abbrev pub Tail : Page → List Page → Type 0
   Tail page [] = Unit {0}
-  Tail page (cell ∷ rest) = (S.programmed cell page S.clean ≡ page) × Undecoded S (some (page, cell)) × Blanks S rest
+  Tail page (cell ∷ rest) = (S.programmed cell page S.clean ≡ page) × Undecoded S (Some (page, cell)) × Blanks S rest
 
   pub tail_of_blanks : (page : Page) (l : List Page) → S.programmed S.blank page S.clean ≡ page → Blanks S l → Tail page l
   tail_of_blanks page [] e b = tt
@@ -238,11 +238,11 @@ module _ {Page Record Mask : Type 0} (S : PageStore Page Record Mask) (L : Lawfu
           short : Short S L i.mem
           short = rw i.stands.memory (short_page S L e f i.stands.rows i.stands.packs)
 
-          dark : Dec (cell ≡ S.blank) → S.decode cell ≡ none → Inv l off nx nf past now
+          dark : Dec (cell ≡ S.blank) → S.decode cell ≡ None → Inv l off nx nf past now
           dark (yes b) d = turned i i.mem i.logged (rw q (b, t.2), short)
           dark (no b) d = spoilt i q (next_sound i.ending e f i.stands.number i.stands.place) (d, b) t.2 short
 
-          go : Undecoded S (some (page, cell)) → Inv l off nx nf past now
+          go : Undecoded S (Some (page, cell)) → Inv l off nx nf past now
           go (inl d) = dark (blank? S L cell) d
           go (inr c) =
               passed i held_content m (i.split ∙ rw (q, c) refl) refl held_strict held_whole i.stands.small i.stands.memory

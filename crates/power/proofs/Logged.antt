@@ -3,7 +3,7 @@
 use Prim.Native.Nat.{ℕ, zero, suc}
 use mathlib.Core.Path.{◌≡◌, refl, sym, ap, ap₂, ◌∙◌, subst}
 use mathlib.Core.Bool.{Bool, true, false, cond, false≢true}
-use mathlib.Core.Option.{Option, none, some}
+use Rattle.std.specs.Prelude.{Option, None, Some}
 use mathlib.Core.Logic.{◌⊎◌, inl, inr}
 use mathlib.Core.List.{List, [], ◌∷◌, ◌++◌, append_assoc, append-nil}
 use Rattle.power.specs.Pages.{PageStore, full}
@@ -72,13 +72,13 @@ module _ {Page Record Mask : Type 0} (S : PageStore Page Record Mask) (L : Lawfu
   mark_record true true x w e m rest =
       ap (λ (o : Option S.Edition). mark_first S w.mark_due (logs_one S true o x rest)) here ∙ by_joins (S.joins w.assembler.edition x)
     where
-      here : recorded_as S w ≡ some w.assembler.edition
+      here : recorded_as S w ≡ Some w.assembler.edition
       here = recorded_as_lem w true w.assembler.edition e refl
 
       after : Writer S
       after = with_assembler S (pushed S (stored S w.assembler x) w.assembler) w
 
-      there : recorded_as S after ≡ some w.assembler.edition
+      there : recorded_as S after ≡ Some w.assembler.edition
       there =
           recorded_as_lem after true w.assembler.edition ((push_marks w.assembler (stored S w.assembler x)).1 ∙ e)
           (push_edition w.assembler (stored S w.assembler x))
@@ -91,11 +91,11 @@ module _ {Page Record Mask : Type 0} (S : PageStore Page Record Mask) (L : Lawfu
       same false h rs = ap {B = List Record} (λ y. y ∷ rs) (sym plain) ∙ ap {B = List Record} (λ l. stored S w.assembler x ∷ l) (sym (unmarked rs))
 
       by_joins : (b : Bool)
-          → mark_first S w.mark_due (cond b (x ∷ rest (some w.assembler.edition)) (rest (some w.assembler.edition)))
+          → mark_first S w.mark_due (cond b (x ∷ rest (Some w.assembler.edition)) (rest (Some w.assembler.edition)))
           ≡ records_in S (cond b ((w.assembler.flight, stored S w.assembler x) ∷ []) [])
           ++ mark_first S (cond b after w).mark_due (rest (recorded_as S (cond b after w)))
       by_joins true =
-          same w.mark_due (m.due e) (rest (some w.assembler.edition))
+          same w.mark_due (m.due e) (rest (Some w.assembler.edition))
           ∙ ap {B = List Record} (λ (o : Option S.Edition). stored S w.assembler x ∷ mark_first S w.mark_due (rest o)) (sym there)
       by_joins false = ap (λ (o : Option S.Edition). mark_first S w.mark_due (rest o)) (sym here)
   mark_record true false x w e m rest =
@@ -107,7 +107,7 @@ module _ {Page Record Mask : Type 0} (S : PageStore Page Record Mask) (L : Lawfu
       after : Writer S
       after = with_assembler S (pushed S (stored S (begun S x w).assembler x) (begun S x w).assembler) (begun S x w)
 
-      there : recorded_as S after ≡ some (S.edition x)
+      there : recorded_as S after ≡ Some (S.edition x)
       there =
           recorded_as_lem after true (S.edition x) (push_marks (begun S x w).assembler (stored S (begun S x w).assembler x)).1
           (push_edition (begun S x w).assembler (stored S (begun S x w).assembler x))
@@ -223,8 +223,8 @@ module _ {Page Record Mask : Type 0} (S : PageStore Page Record Mask) (L : Lawfu
   settled_queue order p m (x ∷ queue) = settled_turns order.while_disarmed order.limit p m
 
   settled_one : (o : Option Page) (p : Pass S) → MarksSettled S p.writer → MarksSettled S (write_one S o p).writer
-  settled_one none p m = m
-  settled_one (some page) p m =
+  settled_one None p m = m
+  settled_one (Some page) p m =
       go (program_if_room S (unasked S p.succeed p.next) p.next page p) (room_facts S (unasked S p.succeed p.next) p.next page p)
     where
       go : (t : Step S) → StepFacts S (unasked S p.succeed p.next) p t → MarksSettled S (ended_with S t).writer

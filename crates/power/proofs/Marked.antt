@@ -4,7 +4,7 @@
 use Prim.Native.Nat.{ℕ, zero, suc}
 use mathlib.Core.Path.{◌≡◌, refl, sym, ◌∙◌, subst}
 use mathlib.Core.Bool.{Bool, true, false, cond, false≢true}
-use mathlib.Core.Option.{Option, none, some}
+use Rattle.std.specs.Prelude.{Option, None, Some}
 use mathlib.Core.Logic.{◌⊎◌, inl, inr}
 use mathlib.Core.List.{List, [], ◌∷◌, ◌++◌, append_assoc, append-nil}
 use Rattle.power.specs.Pages.{PageStore, Each}
@@ -189,8 +189,8 @@ module _ {Page Record Mask : Type 0} (S : PageStore Page Record Mask) (L : Lawfu
         go false e = subst Well (sym (drain_off S order p e)) (record { queue = drop_plain p.queue h.queue; due = h.due })
 
     well_one : (o : Option Page) (p : Pass S) → p.power_gone ≡ false → Well p → Well (write_one S o p)
-    well_one none p g h = h
-    well_one (some page) p g h =
+    well_one None p g h = h
+    well_one (Some page) p g h =
         go (program_if_room S (unasked S p.succeed p.next) p.next page p) (room_facts S (unasked S p.succeed p.next) p.next page p)
       where
         go : (t : Step S) → StepFacts S (unasked S p.succeed p.next) p t → Well (ended_with S t)

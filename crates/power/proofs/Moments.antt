@@ -4,7 +4,7 @@
 use Prim.Native.Nat.{ℕ, zero, suc, ◌+◌, ◌≤◌, ◌<◌}
 use mathlib.Core.Path.{◌≡◌, refl, sym, ap, ◌∙◌, subst}
 use mathlib.Core.Bool.{Bool, true, false, cond}
-use mathlib.Core.Option.{Option, none, some}
+use Rattle.std.specs.Prelude.{Option, None, Some}
 use mathlib.Core.Logic.{inl, inr}
 use mathlib.Core.List.{List, [], ◌∷◌, ◌++◌, append-nil}
 use native.Mathlib.Omega.{arith}
@@ -44,7 +44,7 @@ module _ {Page Record Mask : Type 0} (S : PageStore Page Record Mask) (L : Lawfu
   data At (Allowed : Mask → Type 0) (wd : Bool) (limit : ℕ) (p m : Pass S) : Type 0 where
     reached : (n : ℕ) → n ≤ limit → turns S wd n p ≡ m → At Allowed wd limit p m
     programming : (n : ℕ) → n ≤ limit → (page : Page) (keep : Mask) → Allowed keep → Running p (turns S wd n p)
-        → (fetched S (turns S wd n p).writer).waiting ≡ some page
+        → (fetched S (turns S wd n p).writer).waiting ≡ Some page
         → (fetched S (turns S wd n p).writer).next_page < length (turns S wd n p).log
         → severed S keep page (with_writer S (fetched S (turns S wd n p).writer) (turns S wd n p)) ≡ m → At Allowed wd limit p m
     putted : (n : ℕ) → n < limit → Running p (turns S wd n p) → put_page S (turns S wd n p) ≡ goes_on m → At Allowed wd limit p m
@@ -102,7 +102,7 @@ module _ {Page Record Mask : Type 0} (S : PageStore Page Record Mask) (L : Lawfu
   cutting d keep = with_writer S (fetched_if_writable S d.writer) (begin S d 0 (cut keep))
 
   -- where a page waits and there is an address for it
-  write_severed : (d : Device S) (page : Page) (keep : Mask) → (fetched_if_writable S d.writer).waiting ≡ some page
+  write_severed : (d : Device S) (page : Page) (keep : Mask) → (fetched_if_writable S d.writer).waiting ≡ Some page
       → (fetched_if_writable S d.writer).next_page < length d.log
       → write_pending S (begin S d 0 (cut keep)) ≡ severed S keep page (cutting d keep)
   write_severed d page keep w i =
@@ -117,10 +117,10 @@ module _ {Page Record Mask : Type 0} (S : PageStore Page Record Mask) (L : Lawfu
   record Wrote (m p : Pass S) : Type 0 where
     log : p.log ≡ m.log
     logged : p.logged ≡ []
-    unfinished : p.unfinished ≡ none
+    unfinished : p.unfinished ≡ None
 
   program_wrote : (g : ℕ) (z : Next Mask) (page : Page) (p p' m : Pass S) → p'.log ≡ p.log → p'.writer.next_page ≡ p.writer.next_page
-      → p'.logged ≡ [] → p'.unfinished ≡ none → program S g z page p ≡ goes_on m → Wrote m (ended_with S (program S 1 busy page p'))
+      → p'.logged ≡ [] → p'.unfinished ≡ None → program S g z page p ≡ goes_on m → Wrote m (ended_with S (program S 1 busy page p'))
   program_wrote (suc g) z page p p' m e d l u k =
       record { log = rw (e, d) refl ∙ ap (λ (q : Pass S). q.log) (goes_is k); logged = l; unfinished = u }
   program_wrote zero busy page p p' m e d l u k = absurd (goes_not k)
@@ -128,7 +128,7 @@ module _ {Page Record Mask : Type 0} (S : PageStore Page Record Mask) (L : Lawfu
   program_wrote zero (cut keep) page p p' m e d l u k = absurd (goes_not k)
 
   room_wrote : (g : ℕ) (z : Next Mask) (page : Page) (p p' m : Pass S) → p'.log ≡ p.log → p'.writer.next_page ≡ p.writer.next_page
-      → p'.logged ≡ [] → p'.unfinished ≡ none
+      → p'.logged ≡ [] → p'.unfinished ≡ None
       → program_if_room S g z page p ≡ goes_on m → Wrote m (ended_with S (program_if_room S 1 busy page p'))
   room_wrote g z page p p' m e d l u k = step (ltb p.writer.next_page (length p.log)) refl
     where
@@ -141,11 +141,11 @@ module _ {Page Record Mask : Type 0} (S : PageStore Page Record Mask) (L : Lawfu
 
   put_wrote : (o : Option Page) (p m : Pass S) (d : Device S) (w : Writer S) → d.log ≡ p.log → w.next_page ≡ p.writer.next_page
       → put S o p ≡ goes_on m → Wrote m (write_one S o (with_writer S w (begin S d 1 busy)))
-  put_wrote none p m d w e h k = record { log = e ∙ ap (λ (q : Pass S). q.log) (goes_is k); logged = refl; unfinished = refl }
-  put_wrote (some page) p m d w e h k = room_wrote p.succeed p.next page p (with_writer S w (begin S d 1 busy)) m e h refl refl k
+  put_wrote None p m d w e h k = record { log = e ∙ ap (λ (q : Pass S). q.log) (goes_is k); logged = refl; unfinished = refl }
+  put_wrote (Some page) p m d w e h k = room_wrote p.succeed p.next page p (with_writer S w (begin S d 1 busy)) m e h refl refl k
 
   -- nothing is left unfinished
-  finished : {o : Option (Page × Page)} → o ≡ none → Undecoded S o
+  finished : {o : Option (Page × Page)} → o ≡ None → Undecoded S o
   finished {o} e = subst (λ (x : Option (Page × Page)). Undecoded S x) (sym e) tt
 
   -- what a pass left unfinished is what an equal one left
@@ -177,7 +177,7 @@ module _ {Page Record Mask : Type 0} (S : PageStore Page Record Mask) (L : Lawfu
     drain_assumed n un = undecoded_as (drain_turns (up_to n) (ordered S d order) r queue w e) un
 
     -- a pass of n turns and then a call that is assumed of the device as it stands
-    then_assumed : (n : ℕ) (c : Call S) → (passed n).unfinished ≡ none → Assumed S c (stood n) → AllAssumed S (drains (up_to n) ∷ c ∷ []) d
+    then_assumed : (n : ℕ) (c : Call S) → (passed n).unfinished ≡ None → Assumed S c (stood n) → AllAssumed S (drains (up_to n) ∷ c ∷ []) d
     then_assumed n c u a = (drain_assumed n (finished u), (subst (λ (x : Device S). Assumed S c x) (sym (drained n)) a, tt))
 
     fetch : (n : ℕ) → Running (ordered S d order) (passed n) → fetched_if_writable S (passed n).writer ≡ fetched S (passed n).writer

@@ -2,7 +2,7 @@
 use Prim.Native.Nat.{ℕ, zero, suc, ◌+◌, ◌≤◌}
 use mathlib.Core.Path.{◌≡◌, refl, sym, ap, ◌∙◌, subst}
 use mathlib.Core.Bool.{Bool, true, false, cond, false≢true}
-use mathlib.Core.Option.{Option, none, some}
+use Rattle.std.specs.Prelude.{Option, None, Some}
 use mathlib.Core.Logic.{◌⊎◌, inl, inr}
 use mathlib.Core.List.{List, [], ◌∷◌, ◌++◌, append_assoc, append-nil}
 use native.Mathlib.Omega.{arith}
@@ -65,8 +65,8 @@ module _ {Page Record Mask : Type 0} (S : PageStore Page Record Mask) (L : Lawfu
     writable : q.writer.writable ≡ true → p.writer.writable ≡ true
 
   quiet_one : (o : Option Page) (p : Pass S) → p.power_gone ≡ false → Quiet p (write_one S o p)
-  quiet_one none p g = record { queue = λ h. refl; writable = λ h. h }
-  quiet_one (some page) p g =
+  quiet_one None p g = record { queue = λ h. refl; writable = λ h. h }
+  quiet_one (Some page) p g =
       go (program_if_room S (unasked S p.succeed p.next) p.next page p) (room_facts S (unasked S p.succeed p.next) p.next page p)
     where
       go : (t : Step S) → StepFacts S (unasked S p.succeed p.next) p t → Quiet p (ended_with S t)

@@ -4,7 +4,7 @@
 use Prim.Native.Nat.{ℕ, zero, suc, ◌+◌, ◌≤◌, ◌<◌}
 use mathlib.Core.Path.{◌≡◌, refl, ap, ◌∙◌, sym}
 use mathlib.Core.Bool.{Bool, true, false, cond, false≢true}
-use mathlib.Core.Option.{Option, none, some}
+use Rattle.std.specs.Prelude.{Option, None, Some}
 use mathlib.Core.Logic.{◌⊎◌, inl, inr}
 use mathlib.Core.List.{List, [], ◌∷◌, ◌++◌, append_assoc, append-nil}
 use native.Mathlib.Decide.{ℕ_discrete}
@@ -48,21 +48,21 @@ module _ {Page Record Mask : Type 0} (S : PageStore Page Record Mask) (L : Lawfu
   -- the phase that a writer is in, by what decides it: writable, the page that waits, the page that is ready, whether it records
   abbrev pub phase_by : Bool → Option Page → Option Page → Bool → Assembler S → Phase S L
   phase_by false waiting ready r a = off
-  phase_by true (some page) ready r a = holding a.flight a.sequence a.edition r page
-  phase_by true none (some page) r a = holding a.flight a.sequence a.edition r page
-  phase_by true none none true a = filling a.flight a.sequence a.edition a.rows
-  phase_by true none none false a = idle
+  phase_by true (Some page) ready r a = holding a.flight a.sequence a.edition r page
+  phase_by true None (Some page) r a = holding a.flight a.sequence a.edition r page
+  phase_by true None None true a = filling a.flight a.sequence a.edition a.rows
+  phase_by true None None false a = idle
 
   abbrev pub phase_of : Writer S → Phase S L
   phase_of w = phase_by w.writable w.waiting w.assembler.ready w.assembler.recording w.assembler
 
   -- a page that waits or is ready means no rows, and no mark is pending between records
   abbrev pub SaneBy : Bool → Option Page → Option Page → Bool → List Record → Bool → Type 0
-  SaneBy false waiting ready r rows m = waiting ≡ none
-  SaneBy true (some page) ready r rows m = (ready ≡ none) × (rows ≡ []) × (m ≡ false)
-  SaneBy true none (some page) r rows m = (rows ≡ []) × (m ≡ false)
-  SaneBy true none none true rows m = m ≡ false
-  SaneBy true none none false rows m = (rows ≡ []) × (m ≡ false)
+  SaneBy false waiting ready r rows m = waiting ≡ None
+  SaneBy true (Some page) ready r rows m = (ready ≡ None) × (rows ≡ []) × (m ≡ false)
+  SaneBy true None (Some page) r rows m = (rows ≡ []) × (m ≡ false)
+  SaneBy true None None true rows m = m ≡ false
+  SaneBy true None None false rows m = (rows ≡ []) × (m ≡ false)
 
   abbrev pub Sane : Writer S → Type 0
   Sane w = SaneBy w.writable w.waiting w.assembler.ready w.assembler.recording w.assembler.rows w.assembler.mark_pending
@@ -92,18 +92,18 @@ module _ {Page Record Mask : Type 0} (S : PageStore Page Record Mask) (L : Lawfu
   abbrev pub Small : List (ℕ × Record) → Type 0
   Small logged = Each (λ entry. entry.0 < S.limit) logged
 
-  wrote_phase : (r : Bool) (a : Assembler S) → a.rows ≡ [] → phase_by true none none r a ≡ wrote S L r a.flight a.sequence a.edition
+  wrote_phase : (r : Bool) (a : Assembler S) → a.rows ≡ [] → phase_by true None None r a ≡ wrote S L r a.flight a.sequence a.edition
   wrote_phase true a e = ap (filling a.flight a.sequence a.edition) e
   wrote_phase false a e = refl
 
-  wrote_sane : (r m : Bool) → m ≡ false → SaneBy true none none r [] m
+  wrote_sane : (r m : Bool) → m ≡ false → SaneBy true None None r [] m
   wrote_sane true m h = h
   wrote_sane false m h = (refl, h)
 
   -- a record pushed into an assembler that records and has no page ready
   module _ (v : Writer S) (rows : List Record) (m : Bool) (y : Record) where
     abbrev pushing : Writer S
-    pushing = shaped true none none true rows m v
+    pushing = shaped true None None true rows m v
 
     push_phase : phase_of (with_assembler S (pushed S y pushing.assembler) pushing) ≡ pushed_phase S L v.assembler.flight v.assembler.sequence
         v.assembler.edition (rows ++ y ∷ [])
@@ -173,7 +173,7 @@ module _ {Page Record Mask : Type 0} (S : PageStore Page Record Mask) (L : Lawfu
 
     -- no page waits and none is ready
     abbrev pub Clear : Writer S → Type 0
-    Clear w = (w.writable ≡ true) × (w.waiting ≡ none) × (w.assembler.ready ≡ none)
+    Clear w = (w.writable ≡ true) × (w.waiting ≡ None) × (w.assembler.ready ≡ None)
 
     abbrev pub StepKeeps : Pass S → Step S → Type 0
     StepKeeps p (goes_on q) = Keeps p q × Clear q.writer × (q.queue ≡ p.queue) × (q.unfinished ≡ p.unfinished)
@@ -206,7 +206,7 @@ module _ {Page Record Mask : Type 0} (S : PageStore Page Record Mask) (L : Lawfu
         (i : I p.log (holding v.assembler.flight v.assembler.sequence v.assembler.edition r page) v.next_page v.next_flight p.logged)
         (fits : Each S.Fits p.queue) (small : Small p.logged) where
       abbrev waits : Pass S
-      waits = with_writer S (shaped true (some page) none r [] m v) p
+      waits = with_writer S (shaped true (Some page) None r [] m v) p
 
       waits_good : Good waits
       waits_good = record { inv = i; sane = (refl, refl, hm); fits = fits; small = small }
@@ -217,7 +217,7 @@ module _ {Page Record Mask : Type 0} (S : PageStore Page Record Mask) (L : Lawfu
 
       abbrev Left : Mask → ℕ → Type 0
       Left keep j =
-          (x : Page) × (◌≡◌ {A = Option (Page × Page)} (some (page, programmed_cell S p.log v.next_page page keep)) (some (x, page_at S (leaving keep) j)))
+          (x : Page) × (◌≡◌ {A = Option (Page × Page)} (Some (page, programmed_cell S p.log v.next_page page keep)) (Some (x, page_at S (leaving keep) j)))
 
       left_torn : (keep : Mask) → v.next_page < length p.log → (j : ℕ) → Torn S (page_at S (leaving keep) j) → Torn S (page_at S p.log j) ⊎ Left keep j
       left_torn keep inside j t = go (ℕ_discrete j v.next_page)
@@ -228,7 +228,7 @@ module _ {Page Record Mask : Type 0} (S : PageStore Page Record Mask) (L : Lawfu
               ∙ get_or-set_same p.log v.next_page (programmed_cell S p.log v.next_page page keep) S.blank inside)
 
           go : Dec (j ≡ v.next_page) → Torn S (page_at S p.log j) ⊎ Left keep j
-          go (yes e) = inr (page, ap {B = Option (Page × Page)} (λ (c : Page). some (page, c)) (here e))
+          go (yes e) = inr (page, ap {B = Option (Page × Page)} (λ (c : Page). Some (page, c)) (here e))
           go (no e) = inl (rw (get_or-set_other p.log v.next_page j (programmed_cell S p.log v.next_page page keep) S.blank e) at t)
 
       program_keeps : (g : ℕ) (z : Next Mask) → ltb v.next_page (length p.log) ≡ true → StepKeeps waits (program S g z page waits)
@@ -310,23 +310,23 @@ module _ {Page Record Mask : Type 0} (S : PageStore Page Record Mask) (L : Lawfu
 
     -- the page that was ready waits
     pub fetch_tears : (p : Pass S) (v : Writer S) (page : Page) (r : Bool) (rows : List Record) (m : Bool)
-        → Tears S L (with_writer S (shaped true none (some page) r rows m v) p) (with_writer S (shaped true (some page) none r rows m v) p)
+        → Tears S L (with_writer S (shaped true None (Some page) r rows m v) p) (with_writer S (shaped true (Some page) None r rows m v) p)
     fetch_tears p v page r rows m =
-        tears_as S L (with_writer S (shaped true none (some page) r rows m v) p) (with_writer S (shaped true (some page) none r rows m v) p) refl refl refl
+        tears_as S L (with_writer S (shaped true None (Some page) r rows m v) p) (with_writer S (shaped true (Some page) None r rows m v) p) refl refl refl
         (λ a. a) (λ a. refl)
 
     -- the top of a turn of drain
     pub put_keeps : (p : Pass S) (v : Writer S) (waiting ready : Option Page) (r : Bool) (rows : List Record) (m : Bool)
         → Good (with_writer S (shaped true waiting ready r rows m v) p)
         → StepKeeps (with_writer S (shaped true waiting ready r rows m v) p) (put_page S (with_writer S (shaped true waiting ready r rows m v) p))
-    put_keeps p v none none r rows m h = (keeps_none h, (refl, refl, refl), refl, refl)
-    put_keeps p v none (some page) r rows m h =
+    put_keeps p v None None r rows m h = (keeps_none h, (refl, refl, refl), refl, refl)
+    put_keeps p v None (Some page) r rows m h =
         let e = h.sane.0 in
         rw e
-        (step_as (with_writer S (shaped true none (some page) r [] m v) p) (with_writer S (shaped true (some page) none r [] m v) p)
-        (program_if_room S p.succeed p.next page (with_writer S (shaped true (some page) none r [] m v) p)) refl refl refl (fetch_tears p v page r [] m)
+        (step_as (with_writer S (shaped true None (Some page) r [] m v) p) (with_writer S (shaped true (Some page) None r [] m v) p)
+        (program_if_room S p.succeed p.next page (with_writer S (shaped true (Some page) None r [] m v) p)) refl refl refl (fetch_tears p v page r [] m)
         (room_keeps p v page r m h.sane.1 h.inv h.fits h.small p.succeed p.next))
-    put_keeps p v (some page) ready r rows m h =
+    put_keeps p v (Some page) ready r rows m h =
         let e = h.sane.0 in
         let d = h.sane.1 in
         rw (e, d) (room_keeps p v page r m h.sane.2 h.inv h.fits h.small p.succeed p.next)
@@ -334,7 +334,7 @@ module _ {Page Record Mask : Type 0} (S : PageStore Page Record Mask) (L : Lawfu
     -- a record goes into the rows of the flight
     module _ (p : Pass S) (v : Writer S) (rows : List Record) (m : Bool) (x : Record) where
       abbrev entry : ℕ × Record
-      entry = (v.assembler.flight, stored S (shaped true none none true rows m v).assembler x)
+      entry = (v.assembler.flight, stored S (shaped true None None true rows m v).assembler x)
 
       add_keeps : I p.log (pushed_phase S L v.assembler.flight v.assembler.sequence v.assembler.edition (rows ++ entry.1 ∷ []))
           v.next_page v.next_flight (p.logged ++ entry ∷ [])
@@ -342,7 +342,7 @@ module _ {Page Record Mask : Type 0} (S : PageStore Page Record Mask) (L : Lawfu
           → Good
           (with_logged (p.logged ++ entry ∷ [])
           (with_writer S
-          (with_assembler S (pushed S entry.1 (shaped true none none true rows m v).assembler) (shaped true none none true rows m v)) p))
+          (with_assembler S (pushed S entry.1 (shaped true None None true rows m v).assembler) (shaped true None None true rows m v)) p))
       add_keeps i fits small below =
           record {
             inv = rw (push_phase v rows m entry.1) i;
@@ -361,23 +361,23 @@ module _ {Page Record Mask : Type 0} (S : PageStore Page Record Mask) (L : Lawfu
 
     -- one record from the queue, with no page waiting and none ready: to be logged or not, in a flight or not
     pub take_keeps : (p : Pass S) (v : Writer S) (x : Record) (y r : Bool) (rows : List Record) (m : Bool)
-        → Good (with_writer S (shaped true none none r rows m v) p) → S.Fits x → (y ≡ true → r ≡ false → v.next_flight < S.limit)
+        → Good (with_writer S (shaped true None None r rows m v) p) → S.Fits x → (y ≡ true → r ≡ false → v.next_flight < S.limit)
         → Good
-        (with_logged (p.logged ++ taken_record S y r x (shaped true none none r rows m v))
-        (with_writer S (taken S y r x (shaped true none none r rows m v)) p))
+        (with_logged (p.logged ++ taken_record S y r x (shaped true None None r rows m v))
+        (with_writer S (taken S y r x (shaped true None None r rows m v)) p))
     take_keeps p v x true true rows m h fx below = step (S.joins v.assembler.edition x) refl
       where
         step : (b : Bool) → S.joins v.assembler.edition x ≡ b
             → Good
-            (with_logged (p.logged ++ taken_record S true true x (shaped true none none true rows m v))
-            (with_writer S (taken S true true x (shaped true none none true rows m v)) p))
+            (with_logged (p.logged ++ taken_record S true true x (shaped true None None true rows m v))
+            (with_writer S (taken S true true x (shaped true None None true rows m v)) p))
         step true e =
             rw e
             (add_keeps p v rows m x
             (logged_more p.logged (entry p v rows m x ∷ [])
             (keep_push S L G h.inv v.assembler.flight v.assembler.sequence v.assembler.edition rows h.inv.stands.0 (entry p v rows m x).1
-            (stored_fits (shaped true none none true rows m v).assembler x fx)
-            (stored_joins (shaped true none none true rows m v).assembler v.assembler.edition x e)))
+            (stored_fits (shaped true None None true rows m v).assembler x fx)
+            (stored_joins (shaped true None None true rows m v).assembler v.assembler.edition x e)))
             h.fits h.small h.inv.stands.0.small)
         step false e = rw e (record { inv = logged_none p.logged h.inv; sane = h.sane; fits = h.fits; small = rw (append-nil p.logged) h.small })
     take_keeps p v x true false rows m h fx below =

@@ -3,7 +3,7 @@
 use Prim.Native.Nat.{ℕ, zero, suc, ◌+◌}
 use mathlib.Core.Path.{◌≡◌, refl, sym, ap, ◌∙◌}
 use mathlib.Core.Bool.{Bool, true, false, cond, false≢true}
-use mathlib.Core.Option.{Option, none, some}
+use Rattle.std.specs.Prelude.{Option, None, Some}
 use mathlib.Core.Logic.{◌⊎◌, inl, inr}
 use mathlib.Core.List.{[]}
 use native.Mathlib.Omega.{arith}
@@ -117,8 +117,8 @@ module _ {Page Record Mask : Type 0} (S : PageStore Page Record Mask) where
     pub marks : SameMarks w v
 
   pub fetching_alike : (o : Option Page) (w : Writer S) → Alike (fetching S o w) w
-  fetching_alike none w = record { next_page = refl; writable = refl; marks = record { recording = refl; mark_pending = refl; mark_due = refl; edition = refl } }
-  fetching_alike (some page) w = record { next_page = refl; writable = refl; marks = record { recording = refl; mark_pending = refl; mark_due = refl; edition = refl } }
+  fetching_alike None w = record { next_page = refl; writable = refl; marks = record { recording = refl; mark_pending = refl; mark_due = refl; edition = refl } }
+  fetching_alike (Some page) w = record { next_page = refl; writable = refl; marks = record { recording = refl; mark_pending = refl; mark_due = refl; edition = refl } }
 
   -- facts of a call that differs in the writer only
   facts_as : (g : ℕ) (p : Pass S) (w : Writer S) → Alike w p.writer → (t : Step S) → StepFacts g (with_writer S w p) t → StepFacts g p t
@@ -149,7 +149,7 @@ module _ {Page Record Mask : Type 0} (S : PageStore Page Record Mask) where
       go (inr k) = inr k
 
   option_facts : (o : Option Page) (p : Pass S) → StepFacts p.succeed p (put S o p)
-  option_facts none p =
+  option_facts None p =
       record {
         logged = refl;
         queue = refl;
@@ -161,7 +161,7 @@ module _ {Page Record Mask : Type 0} (S : PageStore Page Record Mask) where
         counted = refl;
         spent = refl;
       }
-  option_facts (some page) p = room_facts p.succeed p.next page p
+  option_facts (Some page) p = room_facts p.succeed p.next page p
 
   pub put_facts : (p : Pass S) → StepFacts p.succeed p (put_page S p)
   put_facts p =

@@ -3,7 +3,7 @@
 use Prim.Native.Nat.{ℕ, zero, suc, ◌+◌, ◌-◌, ◌≤◌, ◌<◌}
 use mathlib.Core.Path.{◌≡◌, refl, sym, ap, ap₂, ◌∙◌}
 use mathlib.Core.Bool.{Bool, true, false, cond, false≢true}
-use mathlib.Core.Option.{Option, none, some}
+use Rattle.std.specs.Prelude.{Option, None, Some}
 use mathlib.Core.Logic.{◌⊎◌, inl, inr, ◌↔◌}
 use mathlib.Core.List.{List, [], ◌∷◌, ◌++◌}
 use native.Mathlib.Omega.{arith}
@@ -55,10 +55,10 @@ module _ {Page Record Mask : Type 0} (S : PageStore Page Record Mask) (L : Lawfu
   verdict_of foreign used count = foreign_answer
 
   begun_foreign : (o : Option ℕ) → if_begun S o foreign_answer ≡ foreign_answer
-  begun_foreign none = refl
-  begun_foreign (some f) = refl
+  begun_foreign None = refl
+  begun_foreign (Some f) = refl
 
-  verdict_sound : (l m : List Page) (k f : ℕ) (c₀ : Decoded Record) → length l ≡ suc k → Whole S (page_at S l 0) c₀ → page_flight S l k ≡ some f
+  verdict_sound : (l m : List Page) (k f : ℕ) (c₀ : Decoded Record) → length l ≡ suc k → Whole S (page_at S l 0) c₀ → page_flight S l k ≡ Some f
       → verdict S (l ++ m) (suc k) ≡ record { page = suc k; flight = S.flight_after f; writable = ltb (suc k) (length (l ++ m)) }
   verdict_sound l m k f c₀ h d e =
       ap₂ (λ (o n : Option ℕ). if_begun S o (appending S (l ++ m) (suc k) n))
@@ -117,7 +117,7 @@ module _ {Page Record Mask : Type 0} (S : PageStore Page Record Mask) (L : Lawfu
   from_broken l (ended c) u (inr t) = none_some t.3.0 (last S L u (suc t.0) t.1)
   from_broken l (frayed c) u (inr t) = none_some unread (last_shown S L u (suc t.0) t.1)
     where
-      unread : page_flight S l (suc t.0) ≡ none
+      unread : page_flight S l (suc t.0) ≡ None
       unread = rw (t.3.0, t.2.0) refl
 
   broken_left : (l m : List Page) (k : ℕ) → Blanks S m → Broken (l ++ m) k → Broken l k

@@ -3,7 +3,7 @@
 use Prim.Native.Nat.{ℕ, zero, suc, ◌+◌, ◌-◌, ◌≤◌, ◌<◌}
 use mathlib.Core.Path.{◌≡◌, refl, sym, ap, ◌∙◌}
 use mathlib.Core.Bool.{Bool, true, false, cond}
-use mathlib.Core.Option.{Option, none, some}
+use Rattle.std.specs.Prelude.{Option, None, Some}
 use mathlib.Core.Logic.{inl, inr}
 use mathlib.Core.List.{List, [], ◌∷◌, ◌++◌}
 use native.Mathlib.Omega.{arith}
@@ -11,6 +11,7 @@ use native.Mathlib.Decide.{dec_lt}
 use lib.Dec.{ltb, leb, eqb}
 use borrow.Author.Tests.{ltb-true, ltb-false, leb-true, leb-false, le-leb, eqb-true, eqb-false}
 use lib.ListN.{length}
+use Rattle.std.proofs.lemmas.Option.{same_Some}
 use Rattle.laws.specs.Halving.{Threshold}
 use Rattle.laws.proofs.Halving.{bisecting_threshold}
 use Rattle.power.specs.Pages.{Decoded, PageStore}
@@ -20,7 +21,7 @@ use Rattle.power.specs.Grammar.{Ending, unused, ended, frayed, foreign, torn_mor
 use Rattle.power.specs.Grammar.{whole_page, torn_page, Loose}
 use Rattle.power.specs.Claims.{ForeignLog, WholeOf, CountsWith, InSpan, SpanOf, SearchFinds}
 use Rattle.power.specs.Scan.{flight_of, page_flight, flight_number, first_from, span, find, FlightsKnown}
-use Rattle.power.proofs.Used.{none_some, some_is, length_snoc, at_left, at_snoc, flight_left, flight_own, used_not_blank, last, last_shown}
+use Rattle.power.proofs.Used.{none_some, length_snoc, at_left, at_snoc, flight_left, flight_own, used_not_blank, last, last_shown}
 use Rattle.power.proofs.Scan.{first_blank_lem, foreign_is, Alien}
 
 module _ {Page Record Mask : Type 0} (S : PageStore Page Record Mask) (L : Lawful S) where
@@ -52,7 +53,7 @@ module _ {Page Record Mask : Type 0} (S : PageStore Page Record Mask) (L : Lawfu
   rises_torn (frayed g) w = absurd (w tt)
   rises_torn foreign w = absurd (w tt)
 
-  top : {l : List Page} (st : Ending Record) → Follows S (LooseRule S) l st → Clear st → (k : ℕ) → length l ≡ suc k → page_flight S l k ≡ some (newest st)
+  top : {l : List Page} (st : Ending Record) → Follows S (LooseRule S) l st → Clear st → (k : ℕ) → length l ≡ suc k → page_flight S l k ≡ Some (newest st)
   top unused u w k h = absurd (last S L u k h)
   top (ended c) u w k h = last_shown S L u k h
   top (frayed c) u w k h = last_shown S L u k h
@@ -60,9 +61,9 @@ module _ {Page Record Mask : Type 0} (S : PageStore Page Record Mask) (L : Lawfu
 
   -- page i has a flight, and none above `most`
   abbrev Flown : List Page → ℕ → ℕ → Type 0
-  Flown l most i = (f : ℕ) × (page_flight S l i ≡ some f) × (f ≤ most)
+  Flown l most i = (f : ℕ) × (page_flight S l i ≡ Some f) × (f ≤ most)
 
-  flown_snoc : (l : List Page) (p : Page) (most most' : ℕ) → most ≤ most' → page_flight S (l ++ p ∷ []) (length l) ≡ some most'
+  flown_snoc : (l : List Page) (p : Page) (most most' : ℕ) → most ≤ most' → page_flight S (l ++ p ∷ []) (length l) ≡ Some most'
       → ((i : ℕ) → i < length l → Flown l most i)
       → (i : ℕ) → i < length (l ++ p ∷ []) → Flown (l ++ p ∷ []) most' i
   flown_snoc l p most most' le e c i h = go (dec_lt i (length l))
@@ -82,11 +83,11 @@ module _ {Page Record Mask : Type 0} (S : PageStore Page Record Mask) (L : Lawfu
       (top (torn_more ending) (torn_page u a t) w (length pages) (length_snoc pages page))
       (λ j q. flown u (sound_clear ending a) j q) i h
 
-  number_is : (l : List Page) (i f : ℕ) → page_flight S l i ≡ some f → flight_number S l i ≡ f
+  number_is : (l : List Page) (i f : ℕ) → page_flight S l i ≡ Some f → flight_number S l i ≡ f
   number_is l i f e = rw e refl
 
   -- flights don't fall
-  order_snoc : (l : List Page) (p : Page) (most most' : ℕ) → most ≤ most' → page_flight S (l ++ p ∷ []) (length l) ≡ some most'
+  order_snoc : (l : List Page) (p : Page) (most most' : ℕ) → most ≤ most' → page_flight S (l ++ p ∷ []) (length l) ≡ Some most'
       → ((i : ℕ) → i < length l → Flown l most i)
       → ((i j : ℕ) → i ≤ j → j < length l → flight_number S l i ≤ flight_number S l j) → (i j : ℕ) → i ≤ j → j < length (l ++ p ∷ [])
       → flight_number S (l ++ p ∷ []) i ≤ flight_number S (l ++ p ∷ []) j
@@ -114,7 +115,7 @@ module _ {Page Record Mask : Type 0} (S : PageStore Page Record Mask) (L : Lawfu
 
   -- after a torn page the flight is a new one
   abbrev Rises : List Page → ℕ → Type 0
-  Rises l i = S.decode (page_at S l i) ≡ none → flight_number S l i < flight_number S l (suc i)
+  Rises l i = S.decode (page_at S l i) ≡ None → flight_number S l i < flight_number S l (suc i)
 
   rise_snoc : (l : List Page) (p : Page) → ((k : ℕ) → length l ≡ suc k → Rises (l ++ p ∷ []) k) → ((i : ℕ) → suc i < length l → Rises l i) → (i : ℕ)
       → suc i < length (l ++ p ∷ []) → Rises (l ++ p ∷ []) i
@@ -125,7 +126,7 @@ module _ {Page Record Mask : Type 0} (S : PageStore Page Record Mask) (L : Lawfu
       go (no q) = e i (omega (arith, length_snoc l p)) d
 
   rise_whole : (l : List Page) (p : Page) (st : Ending Record) (c : Decoded Record) → Follows S (LooseRule S) l st → NotFalling st c
-      → S.decode p ≡ some c → (k : ℕ) → length l ≡ suc k → Rises (l ++ p ∷ []) k
+      → S.decode p ≡ Some c → (k : ℕ) → length l ≡ suc k → Rises (l ++ p ∷ []) k
   rise_whole l p unused c u a d k e t = absurd (last S L u k e)
   rise_whole l p (ended g) c u a d k e t = absurd (none_some (rw (at_left S L l (p ∷ []) k (omega arith)) at t) (last S L u k e))
   rise_whole l p (frayed g) c u a d k e t =
@@ -149,28 +150,28 @@ module _ {Page Record Mask : Type 0} (S : PageStore Page Record Mask) (L : Lawfu
       rise_snoc pages page (λ k e. rise_torn pages page ending u w k e) (λ j q. rise_all u (sound_clear ending a) j q) i h
 
   -- a page's flight, and what counts with it
-  own_whole : (d : Option (Decoded Record)) (f : ℕ) → flight_of S d ≡ some f → (c : Decoded Record) × (d ≡ some c) × (c.flight ≡ f)
-  own_whole none f e = absurd (none_some refl e)
-  own_whole (some c) f e = (c, refl, some_is e)
+  own_whole : (d : Option (Decoded Record)) (f : ℕ) → flight_of S d ≡ Some f → (c : Decoded Record) × (d ≡ Some c) × (c.flight ≡ f)
+  own_whole None f e = absurd (none_some refl e)
+  own_whole (Some c) f e = (c, refl, same_Some _ _ e)
 
-  to_counts : (l : List Page) (f i : ℕ) → ¬ (page_at S l i ≡ S.blank) → page_flight S l i ≡ some f → CountsWith S f l i
+  to_counts : (l : List Page) (f i : ℕ) → ¬ (page_at S l i ≡ S.blank) → page_flight S l i ≡ Some f → CountsWith S f l i
   to_counts l f zero b e = inl (own_whole (S.decode (page_at S l 0)) f e)
   to_counts l f (suc i) b e = go (S.decode (page_at S l (suc i))) refl
     where
       go : (d : Option (Decoded Record)) → S.decode (page_at S l (suc i)) ≡ d → CountsWith S f l (suc i)
-      go none q = inr ((q, b), i, refl, own_whole (S.decode (page_at S l i)) f (rw q at e))
-      go (some c) q = inl (c, q, some_is (rw q at e))
+      go None q = inr ((q, b), i, refl, own_whole (S.decode (page_at S l i)) f (rw q at e))
+      go (Some c) q = inl (c, q, same_Some _ _ (rw q at e))
 
-  from_counts : (l : List Page) (f i : ℕ) → CountsWith S f l i → page_flight S l i ≡ some f
-  from_counts l f i (inl w) = flight_own S L l i w.0 w.1 ∙ ap {B = Option ℕ} some w.2
+  from_counts : (l : List Page) (f i : ℕ) → CountsWith S f l i → page_flight S l i ≡ Some f
+  from_counts l f i (inl w) = flight_own S L l i w.0 w.1 ∙ ap {B = Option ℕ} Some w.2
   from_counts l f i (inr t) = let e = t.2 in rw e (behind (rw e at t.0.0))
     where
-      behind : S.decode (page_at S l (suc t.1)) ≡ none → page_flight S l (suc t.1) ≡ some f
-      behind d = rw (d, t.3.1) (ap {B = Option ℕ} some t.3.2)
+      behind : S.decode (page_at S l (suc t.1)) ≡ None → page_flight S l (suc t.1) ≡ Some f
+      behind d = rw (d, t.3.1) (ap {B = Option ℕ} Some t.3.2)
 
   -- the search over the first k pages, each of which has a flight; these don't fall, and rise after a torn page
   module _ (l : List Page) (k f : ℕ) (used : first_blank S l ≡ k) (ink : (i : ℕ) → i < k → ¬ (page_at S l i ≡ S.blank))
-      (all : (i : ℕ) → i < k → page_flight S l i ≡ some (flight_number S l i))
+      (all : (i : ℕ) → i < k → page_flight S l i ≡ Some (flight_number S l i))
       (mono : (i j : ℕ) → i ≤ j → j < k → flight_number S l i ≤ flight_number S l j) (rise : (i : ℕ) → suc i < k → Rises l i) where
     -- with the first page from which flights are at least f, and the first from which they are above
     module _ (A B : ℕ) (k_a : A ≤ k) (lo_a : (i : ℕ) → i < A → flight_number S l i < f) (hi_a : (i : ℕ) → A ≤ i → i < k → f ≤ flight_number S l i)
@@ -178,10 +179,10 @@ module _ {Page Record Mask : Type 0} (S : PageStore Page Record Mask) (L : Lawfu
       number_whole : (i : ℕ) → WholeOf S f (page_at S l i) → flight_number S l i ≡ f
       number_whole i w = number_is l i f (from_counts l f i (inl w))
 
-      none_left : A ≡ k → SearchFinds S l f none
+      none_left : A ≡ k → SearchFinds S l f None
       none_left e i h w = omega (arith, lo_a i (omega (arith, used)), number_whole i w)
 
-      none_at : A < k → (flight_number S l A ≡ f → ⊥) → SearchFinds S l f none
+      none_at : A < k → (flight_number S l A ≡ f → ⊥) → SearchFinds S l f None
       none_at lt ne i h w = go (dec_lt i A)
         where
           go : Dec (i < A) → ⊥
@@ -200,10 +201,10 @@ module _ {Page Record Mask : Type 0} (S : PageStore Page Record Mask) (L : Lawfu
                 λ i h. (
                   λ r.
                       to_counts l f i (ink i (omega (arith, used)))
-                      (all i (omega (arith, used)) ∙ ap {B = Option ℕ} some (same i (omega (arith, used)) r.0 r.1)),
+                      (all i (omega (arith, used)) ∙ ap {B = Option ℕ} Some (same i (omega (arith, used)) r.0 r.1)),
                   λ q. inside i (omega (arith, used)) (from_counts l f i q),
                 );
-            first = first_whole A refl (to_counts l f A (ink A lt) (all A lt ∙ ap {B = Option ℕ} some e));
+            first = first_whole A refl (to_counts l f A (ink A lt) (all A lt ∙ ap {B = Option ℕ} Some e));
             torn_last = λ i a b. inner i a.0 b.1 (S.decode (page_at S l i)) refl;
           }
         where
@@ -218,13 +219,13 @@ module _ {Page Record Mask : Type 0} (S : PageStore Page Record Mask) (L : Lawfu
           same i h a b = omega (arith, hi_a i a h, lo_b i (omega (arith, before)))
 
           inner : (i : ℕ) → A ≤ i → suc i < A + (B - A) → (d : Option (Decoded Record)) → S.decode (page_at S l i) ≡ d → WholeOf S f (page_at S l i)
-          inner i a b none d =
+          inner i a b None d =
               absurd
               (omega
               (arith, rise i (omega (arith, k_b)) d, same i (omega (arith, k_b)) a (omega arith), same (suc i) (omega (arith, k_b)) (omega arith) b))
-          inner i a b (some c) d = (c, d, omega (arith, number_is l i c.flight (flight_own S L l i c d), same i (omega (arith, k_b)) a (omega arith)))
+          inner i a b (Some c) d = (c, d, omega (arith, number_is l i c.flight (flight_own S L l i c d), same i (omega (arith, k_b)) a (omega arith)))
 
-          inside : (i : ℕ) → i < k → page_flight S l i ≡ some f → InSpan S (span S A B) i
+          inside : (i : ℕ) → i < k → page_flight S l i ≡ Some f → InSpan S (span S A B) i
           inside i h q = (after-A (dec_lt i A), before-B (dec_lt i B))
             where
               after-A : Dec (i < A) → A ≤ i
@@ -260,7 +261,7 @@ module _ {Page Record Mask : Type 0} (S : PageStore Page Record Mask) (L : Lawfu
             hi_b i h q = leb-true (suc f) (flight_number S l i) (b.passes i h q)
 
             two : (q : Bool) → eqb (flight_number S l (first_from S l k f)) f ≡ q → first_from S l k f < k
-                → SearchFinds S l f (cond (eqb (flight_number S l (first_from S l k f)) f) (some (span S (first_from S l k f) (first_from S l k (suc f)))) none)
+                → SearchFinds S l f (cond (eqb (flight_number S l (first_from S l k f)) f) (Some (span S (first_from S l k f) (first_from S l k (suc f)))) None)
             two true e h =
                 rw e
                 (found (first_from S l k f) (first_from S l k (suc f)) a.within lo_a hi_a b.within lo_b hi_b h
@@ -273,7 +274,7 @@ module _ {Page Record Mask : Type 0} (S : PageStore Page Record Mask) (L : Lawfu
             one : (q : Bool) → ltb (first_from S l k f) k ≡ q
                 → SearchFinds S l f
                 (cond (ltb (first_from S l k f) k)
-                (cond (eqb (flight_number S l (first_from S l k f)) f) (some (span S (first_from S l k f) (first_from S l k (suc f)))) none) none)
+                (cond (eqb (flight_number S l (first_from S l k f)) f) (Some (span S (first_from S l k f) (first_from S l k (suc f)))) None) None)
             one true e = rw e (two (eqb (flight_number S l (first_from S l k f)) f) refl (ltb-true (first_from S l k f) k e))
             one false e =
                 rw e
@@ -290,7 +291,7 @@ module _ {Page Record Mask : Type 0} (S : PageStore Page Record Mask) (L : Lawfu
       ink : (i : ℕ) → i < length l → ¬ (page_at S (l ++ m) i ≡ S.blank)
       ink i h = rw (at_left S L l m i h) (used_not_blank S L u i h)
 
-      all : (i : ℕ) → i < length l → page_flight S (l ++ m) i ≡ some (flight_number S (l ++ m) i)
+      all : (i : ℕ) → i < length l → page_flight S (l ++ m) i ≡ Some (flight_number S (l ++ m) i)
       all i h = let x = flown u clear i h in rw (flight_left S L l m i h, x.1) refl
 
       mono : (i j : ℕ) → i ≤ j → j < length l → flight_number S (l ++ m) i ≤ flight_number S (l ++ m) j

@@ -3,11 +3,12 @@
 use Prim.Native.Nat.{ℕ}
 use mathlib.Core.Path.{◌≡◌, refl, sym, ap, ◌∙◌, subst}
 use mathlib.Core.Bool.{true, false, false≢true}
-use mathlib.Core.Option.{none}
+use Rattle.std.specs.Prelude.{None}
 use mathlib.Core.Logic.{inl, inr}
 use mathlib.Core.List.{List, [], ◌∷◌, ◌++◌, append_assoc, append-nil}
 use native.Mathlib.Nat.{zero-add}
 use native.Mathlib.Omega.{arith}
+use Rattle.std.proofs.lemmas.List.{map-append}
 use Rattle.power.specs.Pages.{PageStore, Each}
 use Rattle.power.specs.Lawful.{Lawful}
 use Rattle.power.specs.Scan.{scan}
@@ -138,7 +139,7 @@ module _ {Page Record Mask : Type 0} (S : PageStore Page Record Mask) (L : Lawfu
   silent_call powers d w e = record { past = filled_none d.past d.now e; now = refl }
 
   silent : (life : List (Call S)) (l : List Page) (d : Device S) → (scan S l).writable ≡ false → d.log ≡ l → d.writer.writable ≡ false
-      → d.writer.waiting ≡ none → d.now ≡ [] → filled (history S (lives S life d)) ≡ filled d.past
+      → d.writer.waiting ≡ None → d.now ≡ [] → filled (history S (lives S life d)) ≡ filled d.past
   silent [] l d h e w n q = filled_none d.past d.now q
   silent (c ∷ life) l d h e w n q =
       let k = quiet_call S L c l d h e w n in
@@ -157,17 +158,13 @@ module _ {Page Record Mask : Type 0} (S : PageStore Page Record Mask) (L : Lawfu
   grows (powers ∷ life) d = let i = grows life (call S powers d) in (d.now ∷ i.0, i.1 ∙ append_assoc d.past (d.now ∷ []) i.0)
 
   module _ {Key : Type 0} (view : ℕ × Record → Key) where
-    seen_append : (a b : List (List (ℕ × Record))) → each_seen view (a ++ b) ≡ each_seen view a ++ each_seen view b
-    seen_append [] b = refl
-    seen_append (x ∷ a) b = ap {B = List (List Key)} (λ l. seen view x ∷ l) (seen_append a b)
-
     -- the board that goes on
     went_on : (d : Device S) (more : List (Call S))
         → (rest : List (List Key)) × (logged_by S view (lives S more (power_on S d)) ≡ logged_by S view d ++ rest)
     went_on d more =
         let i = grows more (power_on S d) in (
           filled (each_seen view i.0),
-          ap (λ (h : List (List (ℕ × Record))). filled (each_seen view h)) i.1 ∙ ap filled (seen_append (history S d) i.0)
+          ap (λ (h : List (List (ℕ × Record))). filled (each_seen view h)) i.1 ∙ ap filled (map-append (seen view) (history S d) i.0)
               ∙ filled_append (each_seen view (history S d)) (each_seen view i.0),
         )
 

@@ -4,7 +4,7 @@
 use Prim.Native.Nat.{ℕ, zero, suc, ◌≤◌, ◌<◌}
 use mathlib.Core.Path.{◌≡◌, refl, sym, subst, ◌∙◌}
 use mathlib.Core.Bool.{Bool, true, false, false≢true}
-use mathlib.Core.Option.{Option, none, some}
+use Rattle.std.specs.Prelude.{Option, None, Some}
 use mathlib.Core.Logic.{inl, inr}
 use mathlib.Core.List.{List, [], ◌∷◌, ◌++◌}
 use native.Mathlib.Omega.{arith}
@@ -97,8 +97,8 @@ module _ {Page Record Mask : Type 0} (S : PageStore Page Record Mask) (L : Lawfu
       step false e = rw e h
 
   option_spared : (o : Option Page) (p : Pass S) → p.writer.writable ≡ true → Spared p → Spared (ended_with S (put S o p))
-  option_spared none p on h = h
-  option_spared (some page) p on h = room_spared p.succeed page p on h
+  option_spared None p on h = h
+  option_spared (Some page) p on h = room_spared p.succeed page p on h
 
   fetched_alike : (w : Writer S) → Alike S (fetched S w) w
   fetched_alike w = fetching_alike S w.waiting w
@@ -149,13 +149,13 @@ module _ {Page Record Mask : Type 0} (S : PageStore Page Record Mask) (L : Lawfu
 
   -- write_pending
   one_spared : (o : Option Page) (p : Pass S) → p.writer.writable ≡ true → Spared p → Spared (write_one S o p)
-  one_spared none p on h = h
-  one_spared (some page) p on h = room_spared (unasked S p.succeed p.next) page p on h
+  one_spared None p on h = h
+  one_spared (Some page) p on h = room_spared (unasked S p.succeed p.next) page p on h
 
   write_on : (p : Pass S) → p.writer.writable ≡ true → write_pending S p ≡ write_one S (fetched S p.writer).waiting (with_writer S (fetched S p.writer) p)
   write_on p on = rw on refl
 
-  write_spared : (p : Pass S) → (p.writer.writable ≡ false → p.writer.waiting ≡ none) → Spared p → Spared (write_pending S p)
+  write_spared : (p : Pass S) → (p.writer.writable ≡ false → p.writer.waiting ≡ None) → Spared p → Spared (write_pending S p)
   write_spared p idle h = go p.writer.writable refl
     where
       go : (b : Bool) → p.writer.writable ≡ b → Spared (write_pending S p)
@@ -194,7 +194,7 @@ module _ {Page Record Mask : Type 0} (S : PageStore Page Record Mask) (L : Lawfu
     power_ready d h = let left = left_loose S L G d h in rw left.split (scan_ready left.used left.rest left.blanks left.follows)
 
     idle_off : (w : Writer S) (b : Bool) (ready : Option Page) (r : Bool) (rows : List Record) (m : Bool) → SaneBy S L b w.waiting ready r rows m
-        → b ≡ false → w.waiting ≡ none
+        → b ≡ false → w.waiting ≡ None
     idle_off w true ready r rows m h e = absurd (false≢true (sym e))
     idle_off w false ready r rows m h e = h
 

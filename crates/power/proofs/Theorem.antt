@@ -3,7 +3,7 @@
 use Prim.Native.Nat.{ℕ, zero, suc, ◌+◌, ◌≤◌, ◌<◌}
 use mathlib.Core.Path.{◌≡◌, refl, sym, ap, ◌∙◌}
 use mathlib.Core.Bool.{Bool, true, false, false≢true}
-use mathlib.Core.Option.{Option, none, some}
+use Rattle.std.specs.Prelude.{Option, None, Some}
 use mathlib.Core.Logic.{◌⊎◌, inl, inr}
 use mathlib.Core.List.{List, [], ◌∷◌, ◌++◌, append-nil}
 use native.Mathlib.Omega.{arith}
@@ -111,7 +111,7 @@ module _ {Page Record Mask : Type 0} (S : PageStore Page Record Mask) (L : Lawfu
     woken_phase true = refl
     woken_phase false = refl
 
-    woken_sane : (b : Bool) → SaneBy S L b none none false [] false
+    woken_sane : (b : Bool) → SaneBy S L b None None false [] false
     woken_sane true = (refl, refl)
     woken_sane false = refl
 
@@ -259,14 +259,14 @@ module _ {Page Record Mask : Type 0} (S : PageStore Page Record Mask) (L : Lawfu
 
   -- on a log that is not writable write_pending has no page to write
   pub write_off : (p : Pass S) (v : Writer S) (writable : Bool) (waiting ready : Option Page) (r : Bool) (rows : List Record) (m : Bool)
-      → writable ≡ false → waiting ≡ none
+      → writable ≡ false → waiting ≡ None
       → write_pending S (with_writer S (shaped S L writable waiting ready r rows m v) p) ≡ with_writer S (shaped S L writable waiting ready r rows m v) p
   write_off p v true waiting ready r rows m h e = absurd (false≢true (sym h))
-  write_off p v false (some page) ready r rows m h e = absurd (none_some e refl)
-  write_off p v false none ready r rows m h e = refl
+  write_off p v false (Some page) ready r rows m h e = absurd (none_some e refl)
+  write_off p v false None ready r rows m h e = refl
 
-  pub quiet_call : (c : Call S) (l : List Page) (d : Device S) → (scan S l).writable ≡ false → d.log ≡ l → d.writer.writable ≡ false → d.writer.waiting ≡ none
-      → ((call S c d).log ≡ l) × ((call S c d).writer.writable ≡ false) × ((call S c d).writer.waiting ≡ none)
+  pub quiet_call : (c : Call S) (l : List Page) (d : Device S) → (scan S l).writable ≡ false → d.log ≡ l → d.writer.writable ≡ false → d.writer.waiting ≡ None
+      → ((call S c d).log ≡ l) × ((call S c d).writer.writable ≡ false) × ((call S c d).writer.waiting ≡ None)
   quiet_call (offers r) l d h e w n = (e, w, n)
   quiet_call (drains order) l d h e w n =
       let q = drain_off S order (ordered S d order) w in
@@ -279,7 +279,7 @@ module _ {Page Record Mask : Type 0} (S : PageStore Page Record Mask) (L : Lawfu
   quiet_call powers l d h e w n = (e, rw e h, refl)
 
   quiet : (life : List (Call S)) (l : List Page) (d : Device S) → (scan S l).writable ≡ false → d.log ≡ l → d.writer.writable ≡ false
-      → d.writer.waiting ≡ none → (lives S life d).log ≡ l
+      → d.writer.waiting ≡ None → (lives S life d).log ≡ l
   quiet [] l d h e w n = e
   quiet (c ∷ life) l d h e w n = let q = quiet_call c l d h e w n in quiet life l (call S c d) h q.0 q.1 q.2
 

@@ -1,6 +1,6 @@
 -- Torn pages, call by call through a power-on. Assumes nothing.
 use Prim.Native.Nat.{ℕ, ◌+◌, ◌≤◌, ◌<◌}
-use mathlib.Core.Option.{some}
+use Rattle.std.specs.Prelude.{Some}
 use mathlib.Core.Path.{◌≡◌, refl, sym, ap, ◌∙◌}
 use mathlib.Core.Logic.{inr, ◌⊎◌, inl}
 use mathlib.Core.List.{List, [], ◌∷◌, append-nil}
@@ -50,7 +50,7 @@ module _ {Page Record Mask : Type 0} (S : PageStore Page Record Mask) (L : Lawfu
 
     -- each torn page was torn before, or is what the unfinished program left
     pub call_left : (c : Call S) (d : Device S) → Assumed S c d → Because S L G (call S c d) → Stands S L G d → (i : ℕ) → Torn S (page_at S (call S c d).log i)
-        → Torn S (page_at S d.log i) ⊎ ((page : Page) × (unfinished_in S c d ≡ some (page, page_at S (call S c d).log i)))
+        → Torn S (page_at S d.log i) ⊎ ((page : Page) × (unfinished_in S c d ≡ Some (page, page_at S (call S c d).log i)))
     call_left (offers r) d a b h i t = inl t
     call_left (drains order) d a b h i t =
         (drain_keeps S L G d.past d.now order (ordered S d order) (begins S L G d order.succeed order.next h) a (why S L G d (drain S order (ordered S d order)) b)).tears.left refl i t

@@ -3,7 +3,7 @@ use Prim.Native.Nat.{ℕ, suc, ◌+◌, ◌≤◌}
 use mathlib.Core.Logic.{◌⊎◌, inl, inr}
 use mathlib.Core.Path.{◌≡◌, refl, sym, ap, ◌∙◌}
 use mathlib.Core.Bool.{Bool, true, false}
-use mathlib.Core.Option.{Option, none, some}
+use Rattle.std.specs.Prelude.{Option, None, Some}
 use mathlib.Core.List.{List, [], ◌∷◌, ◌++◌}
 use native.Mathlib.Omega.{arith}
 use lib.ListN.{length, take}
@@ -18,9 +18,9 @@ use Rattle.power.proofs.Used.{length_snoc, blank_yes, none_some}
 
 module _ {Page Record Mask : Type 0} (S : PageStore Page Record Mask) (L : Lawful S) where
   torn_few : (blank : Bool) (o : Option (Decoded Record)) → torn_one S blank o ≤ 1
-  torn_few blank (some c) = omega arith
-  torn_few true none = omega arith
-  torn_few false none = omega arith
+  torn_few blank (Some c) = omega arith
+  torn_few true None = omega arith
+  torn_few false None = omega arith
 
   pub torn_append : (a b : List Page) → torn_in S (a ++ b) ≡ torn_in S a + torn_in S b
   torn_append [] b = omega arith
@@ -78,7 +78,7 @@ module _ {Page Record Mask : Type 0} (S : PageStore Page Record Mask) (L : Lawfu
   pub record Few (so_many : ℕ) (l : List Page) (w : Writer S) : Type 0 where
     pub at_most : torn_in S l ≤ suc so_many
     pub below : w.writable ≡ true → torn_in S (take w.next_page l) ≤ so_many
-    pub clear : w.writable ≡ true → w.waiting ≡ none → torn_in S l ≤ so_many
+    pub clear : w.writable ≡ true → w.waiting ≡ None → torn_in S l ≤ so_many
     pub ends : Ends so_many l
 
   -- the first k pages are below the next page of a writer that may write
@@ -86,15 +86,15 @@ module _ {Page Record Mask : Type 0} (S : PageStore Page Record Mask) (L : Lawfu
   Under k w = w.writable ≡ true → k ≤ w.next_page
 
   abbrev pub LeftTorn : Pass S → Pass S → ℕ → Type 0
-  LeftTorn p q i = Torn S (page_at S p.log i) ⊎ ((page : Page) × (q.unfinished ≡ some (page, page_at S q.log i)))
+  LeftTorn p q i = Torn S (page_at S p.log i) ⊎ ((page : Page) × (q.unfinished ≡ Some (page, page_at S q.log i)))
 
   -- from one moment of a call to another
   pub record Tears (p q : Pass S) : Type 0 where
     pub few : (so_many : ℕ) → Few so_many p.log p.writer → Few so_many q.log q.writer
-    pub calm : q.unfinished ≡ none → (p.unfinished ≡ none) × (torn_in S q.log ≤ torn_in S p.log)
+    pub calm : q.unfinished ≡ None → (p.unfinished ≡ None) × (torn_in S q.log ≤ torn_in S p.log)
     pub front : (k : ℕ) → Under k p.writer → (take k q.log ≡ take k p.log) × Under k q.writer
     -- a page that is torn was torn before, or the program that was left unfinished left it
-    pub left : p.unfinished ≡ none → (i : ℕ) → Torn S (page_at S q.log i) → LeftTorn p q i
+    pub left : p.unfinished ≡ None → (i : ℕ) → Torn S (page_at S q.log i) → LeftTorn p q i
 
   pub tears_none : (p : Pass S) → Tears p p
   tears_none p = record { few = λ n f. f; calm = λ u. (u, omega arith); front = λ k u. (refl, u); left = λ u i t. inl t }
@@ -109,17 +109,17 @@ module _ {Page Record Mask : Type 0} (S : PageStore Page Record Mask) (L : Lawfu
         left = λ u i t. second u i (b.left (e ∙ u) i t);
       }
     where
-      first : (i : ℕ) → q.unfinished ≡ none → LeftTorn p q i → Torn S (page_at S p.log i)
+      first : (i : ℕ) → q.unfinished ≡ None → LeftTorn p q i → Torn S (page_at S p.log i)
       first i u (inl t) = t
       first i u (inr l) = absurd (none_some u l.1)
 
-      second : p.unfinished ≡ none → (i : ℕ) → LeftTorn q r i → LeftTorn p r i
+      second : p.unfinished ≡ None → (i : ℕ) → LeftTorn q r i → LeftTorn p r i
       second u i (inl t) = inl (first i (e ∙ u) (a.left u i t))
       second u i (inr l) = inr l
 
   -- nothing but the writer changed, and of that neither the next page nor whether it may write, and no page waits that did not before
   pub tears_as : (p q : Pass S) → q.log ≡ p.log → q.unfinished ≡ p.unfinished → q.writer.next_page ≡ p.writer.next_page
-      → (q.writer.writable ≡ true → p.writer.writable ≡ true) → (q.writer.waiting ≡ none → p.writer.waiting ≡ none) → Tears p q
+      → (q.writer.writable ≡ true → p.writer.writable ≡ true) → (q.writer.waiting ≡ None → p.writer.waiting ≡ None) → Tears p q
   tears_as p q e u x on wait =
       record {
         few = λ n f.

@@ -3,13 +3,14 @@
 use Prim.Native.Nat.{ℕ, zero, suc, ◌+◌, ◌≤◌, ◌<◌}
 use mathlib.Core.Path.{◌≡◌, refl, sym, ap, ◌∙◌, subst}
 use mathlib.Core.Bool.{Bool, true, false, false≢true}
-use mathlib.Core.Option.{none}
+use Rattle.std.specs.Prelude.{None}
 use mathlib.Core.Logic.{inr}
 use mathlib.Core.List.{List, [], ◌∷◌, ◌++◌, append-nil}
 use native.Mathlib.Omega.{arith}
 use native.Mathlib.Decide.{dec_lt}
 use lib.ListN.{length, take, drop, take-append-drop, get_or-append}
 use lib.Seq.{take_at, take-append-le, get_or-append-add}
+use Rattle.std.proofs.lemmas.List.{append_cancel_left}
 use Rattle.power.specs.Pages.{Decoded, PageStore, Each, in_flight}
 use Rattle.power.specs.Lawful.{Lawful}
 use Rattle.power.specs.Reading.{Blanks, Whole, Torn, page_at, records_on}
@@ -30,10 +31,6 @@ use Rattle.power.proofs.Puts.{drain_off}
 use Rattle.power.proofs.Moments.{lives_append, assumed_append}
 use Rattle.power.proofs.Segments.{segments_from_beginning, parts_marked}
 use Rattle.power.proofs.Torn.{few_power_on, lives_tear, lives_front}
-
-append_same : {A : Type 0} (a x y : List A) → a ++ x ≡ a ++ y → x ≡ y
-append_same [] x y e = e
-append_same (p ∷ a) x y e = append_same a x y cc
 
 module _ {Page Record Mask : Type 0} (S : PageStore Page Record Mask) (L : Lawful S) where
   -- ---- counting
@@ -127,7 +124,7 @@ module _ {Page Record Mask : Type 0} (S : PageStore Page Record Mask) (L : Lawfu
 
         inv : Inv S L G d.log idle nx (scan S d.log).flight (d.past ++ d.now ∷ []) []
         inv =
-            subst (λ (b : Bool). Inv S L G d.log (phase_by S L b none none false (new S).assembler) nx (scan S d.log).flight (d.past ++ d.now ∷ []) []) w
+            subst (λ (b : Bool). Inv S L G d.log (phase_by S L b None None false (new S).assembler) nx (scan S d.log).flight (d.past ++ d.now ∷ []) []) w
             on_stands.inv
 
         front : take nx after.log ≡ inv.base
@@ -190,7 +187,7 @@ module _ {Page Record Mask : Type 0} (S : PageStore Page Record Mask) (L : Lawfu
 
         later_is : records_on S later ≡ seg.added
         later_is =
-            append_same (records_on S inv.base) (records_on S later) seg.added
+            append_cancel_left (records_on S inv.base) (records_on S later) seg.added
             (sym (ap (records_on S) after_split ∙ records_append S L inv.base later)
             ∙ sym (ap (λ (x : Device S). records_on S x.log) fresh_is) ∙ seg.behind
             ∙ ap (λ (l : List (ℕ × Record)). l ++ seg.added) were)
@@ -306,7 +303,7 @@ module _ {Page Record Mask : Type 0} (S : PageStore Page Record Mask) (L : Lawfu
     blank_marks l b i c t q = absurd (t.1 (blanks_at S L l b i))
 
     -- before the first power-on nothing is written
-    early : (life : List (Call S)) (d : Device S) → Stands S L G d → Blanks S d.log → d.writer.writable ≡ false → d.writer.waiting ≡ none
+    early : (life : List (Call S)) (d : Device S) → Stands S L G d → Blanks S d.log → d.writer.writable ≡ false → d.writer.waiting ≡ None
         → AllAssumed S life d → PlainOffers S life → MarkAfterTorn S (lives S life d).log
     early [] d st b w n a plain = blank_marks d.log b
     early (powers ∷ life) d st b w n a plain = walk life d [] st (blank_marks d.log b) tt tt tt a.1 plain

@@ -2,7 +2,7 @@
 use Prim.Native.Nat.{ℕ, zero, suc, ◌<◌}
 use mathlib.Core.Path.{◌≡◌, refl, sym, ap, ◌∙◌}
 use mathlib.Core.Bool.{Bool, true, false, false≢true}
-use mathlib.Core.Option.{Option, none, some}
+use Rattle.std.specs.Prelude.{Option, None, Some}
 use mathlib.Core.Logic.{inl, inr}
 use mathlib.Core.List.{List, [], ◌∷◌, ◌++◌, append_assoc, append-nil}
 use native.Mathlib.Omega.{arith}
@@ -81,8 +81,8 @@ module _ {Page Record Mask : Type 0} (S : PageStore Page Record Mask) (L : Lawfu
     flight_small logged y i (inr room) = omega (arith, i.stands.next_flight_lem, i.risen, i.long, length-append i.base i.more, ap length i.split)
 
     begin_small : (p : Pass S) (v : Writer S) (x : Record) (y r : Bool) (rows : List Record) (m : Bool)
-        → Good S L G past now (with_writer S (shaped S L true none none r rows m v) p)
-        → Why S L G past now (p.logged ++ taken_record S y r x (shaped S L true none none r rows m v)) → y ≡ true → r ≡ false → v.next_flight < S.limit
+        → Good S L G past now (with_writer S (shaped S L true None None r rows m v) p)
+        → Why S L G past now (p.logged ++ taken_record S y r x (shaped S L true None None r rows m v)) → y ≡ true → r ≡ false → v.next_flight < S.limit
     begin_small p v x y true rows m h why hy hr = absurd (false≢true (sym hr))
     begin_small p v x false false rows m h why hy hr = absurd (false≢true hy)
     begin_small p v x true false rows m h why hy hr = flight_small p.logged (stored S (begun S x v).assembler x) h.inv (rw (L.joins_own x) at why)
@@ -90,21 +90,21 @@ module _ {Page Record Mask : Type 0} (S : PageStore Page Record Mask) (L : Lawfu
     -- a record leaves the queue
     one_keeps : (p : Pass S) (v : Writer S) (x : Record) (queue : List Record) (wd writable : Bool) (waiting ready : Option Page) (r : Bool)
         (rows : List Record) (m : Bool)
-        → writable ≡ true → waiting ≡ none → ready ≡ none
+        → writable ≡ true → waiting ≡ None → ready ≡ None
         → p.queue ≡ x ∷ queue → Good S L G past now (with_writer S (shaped S L writable waiting ready r rows m v) p)
         → Why S L G past now (take_one S wd x queue (with_writer S (shaped S L writable waiting ready r rows m v) p)).logged
         → Good S L G past now (take_one S wd x queue (with_writer S (shaped S L writable waiting ready r rows m v) p))
     one_keeps p v x queue wd false waiting ready r rows m e₁ e₂ e₃ q h why = absurd (false≢true e₁)
-    one_keeps p v x queue wd true (some page) ready r rows m e₁ e₂ e₃ q h why = absurd (none_some e₂ refl)
-    one_keeps p v x queue wd true none (some page) r rows m e₁ e₂ e₃ q h why = absurd (none_some e₃ refl)
-    one_keeps p v x queue wd true none none r rows m e₁ e₂ e₃ q h why = record { inv = k.inv; sane = k.sane; fits = fits.1; small = k.small }
+    one_keeps p v x queue wd true (Some page) ready r rows m e₁ e₂ e₃ q h why = absurd (none_some e₂ refl)
+    one_keeps p v x queue wd true None (Some page) r rows m e₁ e₂ e₃ q h why = absurd (none_some e₃ refl)
+    one_keeps p v x queue wd true None None r rows m e₁ e₂ e₃ q h why = record { inv = k.inv; sane = k.sane; fits = fits.1; small = k.small }
       where
         fits : Each S.Fits (x ∷ queue)
         fits = rw q at h.fits
 
         k : Good S L G past now
-            (with_logged S L (p.logged ++ taken_record S (logs S wd x) r x (shaped S L true none none r rows m v))
-            (with_writer S (taken S (logs S wd x) r x (shaped S L true none none r rows m v)) p))
+            (with_logged S L (p.logged ++ taken_record S (logs S wd x) r x (shaped S L true None None r rows m v))
+            (with_writer S (taken S (logs S wd x) r x (shaped S L true None None r rows m v)) p))
         k = take_keeps S L G past now p v x (logs S wd x) r rows m h fits.0 (begin_small p v x (logs S wd x) r rows m h why)
 
     -- the turns of drain
@@ -160,19 +160,19 @@ module _ {Page Record Mask : Type 0} (S : PageStore Page Record Mask) (L : Lawfu
         → Good S L G past now
         (with_writer S
         (with_assembler S (stopped S (shaped S L true waiting ready true rows m v).assembler) (shaped S L true waiting ready true rows m v)) p)
-    stop_keeps p v (some page) ready rows m h =
+    stop_keeps p v (Some page) ready rows m h =
         let e = h.sane.1 in
         rw e (record { inv = keep_stop_held S L G h.inv; sane = (h.sane.0, refl, h.sane.2); fits = h.fits; small = h.small })
-    stop_keeps p v none (some page) rows m h =
+    stop_keeps p v None (Some page) rows m h =
         let e = h.sane.0 in rw e (record { inv = keep_stop_held S L G h.inv; sane = (refl, h.sane.1); fits = h.fits; small = h.small })
-    stop_keeps p v none none [] m h =
+    stop_keeps p v None None [] m h =
         record {
           inv = keep_stop S L G h.inv v.assembler.flight v.assembler.sequence v.assembler.edition [] h.inv.stands.0 h.inv.stands.1;
           sane = (refl, h.sane);
           fits = h.fits;
           small = h.small;
         }
-    stop_keeps p v none none (x ∷ rows) m h =
+    stop_keeps p v None None (x ∷ rows) m h =
         record {
           inv =
               keep_stop S L G h.inv v.assembler.flight v.assembler.sequence v.assembler.edition (x ∷ rows) h.inv.stands.0
@@ -235,24 +235,24 @@ module _ {Page Record Mask : Type 0} (S : PageStore Page Record Mask) (L : Lawfu
         → Undecoded S (write_pending S (with_writer S (shaped S L writable waiting ready r rows m v) p)).unfinished
         → Keeps S L G past now (with_writer S (shaped S L writable waiting ready r rows m v) p)
         (write_pending S (with_writer S (shaped S L writable waiting ready r rows m v) p))
-    write_by p v false none ready r rows m h = λ un. keeps_none S L G past now h
-    write_by p v false (some page) ready r rows m h = absurd (none_some h.sane refl)
-    write_by p v true none none r rows m h = λ un. keeps_none S L G past now h
-    write_by p v true none (some page) r rows m h =
+    write_by p v false None ready r rows m h = λ un. keeps_none S L G past now h
+    write_by p v false (Some page) ready r rows m h = absurd (none_some h.sane refl)
+    write_by p v true None None r rows m h = λ un. keeps_none S L G past now h
+    write_by p v true None (Some page) r rows m h =
         let e = h.sane.0 in
         rw e
-        (λ un. ended_keeps (with_writer S (shaped S L true none (some page) r [] m v) p)
-        (program_if_room S (unasked S p.succeed p.next) p.next page (with_writer S (shaped S L true (some page) none r [] m v) p))
-        (step_as S L G past now (with_writer S (shaped S L true none (some page) r [] m v) p) (with_writer S (shaped S L true (some page) none r [] m v) p)
-        (program_if_room S (unasked S p.succeed p.next) p.next page (with_writer S (shaped S L true (some page) none r [] m v) p)) refl refl refl
+        (λ un. ended_keeps (with_writer S (shaped S L true None (Some page) r [] m v) p)
+        (program_if_room S (unasked S p.succeed p.next) p.next page (with_writer S (shaped S L true (Some page) None r [] m v) p))
+        (step_as S L G past now (with_writer S (shaped S L true None (Some page) r [] m v) p) (with_writer S (shaped S L true (Some page) None r [] m v) p)
+        (program_if_room S (unasked S p.succeed p.next) p.next page (with_writer S (shaped S L true (Some page) None r [] m v) p)) refl refl refl
         (fetch_tears S L G past now p v page r [] m)
         (room_keeps S L G past now p v page r m h.sane.1 h.inv h.fits h.small (unasked S p.succeed p.next) p.next)) un)
-    write_by p v true (some page) ready r rows m h =
+    write_by p v true (Some page) ready r rows m h =
         let e = h.sane.0 in
         let d = h.sane.1 in
         rw (e, d)
-        (λ un. ended_keeps (with_writer S (shaped S L true (some page) none r [] m v) p)
-        (program_if_room S (unasked S p.succeed p.next) p.next page (with_writer S (shaped S L true (some page) none r [] m v) p))
+        (λ un. ended_keeps (with_writer S (shaped S L true (Some page) None r [] m v) p)
+        (program_if_room S (unasked S p.succeed p.next) p.next page (with_writer S (shaped S L true (Some page) None r [] m v) p))
         (room_keeps S L G past now p v page r m h.sane.2 h.inv h.fits h.small (unasked S p.succeed p.next) p.next) un)
 
     pub write_keeps : (p : Pass S) → Good S L G past now p → Undecoded S (write_pending S p).unfinished → Keeps S L G past now p (write_pending S p)

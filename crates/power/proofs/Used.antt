@@ -3,7 +3,7 @@
 use Prim.Native.Nat.{ℕ, zero, suc, ◌<◌}
 use mathlib.Core.Path.{◌≡◌, refl, sym, ap, ap₂, ◌∙◌}
 use mathlib.Core.Bool.{Bool, true, false, false≢true}
-use mathlib.Core.Option.{Option, none, some}
+use Rattle.std.specs.Prelude.{Option, None, Some}
 use mathlib.Core.List.{List, [], ◌∷◌, ◌++◌, append_assoc}
 use native.Mathlib.Omega.{arith}
 use native.Mathlib.Decide.{dec_lt}
@@ -17,11 +17,8 @@ use Rattle.power.specs.Grammar.{whole_page, torn_page, LogBy}
 use Rattle.power.specs.Scan.{flight_of, or_else, page_flight}
 
 -- an answer is not both there and not there
-pub none_some : {A : Type 0} {d : Option A} {a : A} → d ≡ none → d ≡ some a → ⊥
+pub none_some : {A : Type 0} {d : Option A} {a : A} → d ≡ None → d ≡ Some a → ⊥
 none_some {A} {d} {a} p q = let z : ◌≡◌ {A = ℕ} 0 1 = cc in omega arith
-
-pub some_is : {A : Type 0} {a b : A} → some a ≡ some b → a ≡ b
-some_is e = cc
 
 -- a list with one more element
 pub length_snoc : {A : Type 0} (l : List A) (x : A) → length (l ++ x ∷ []) ≡ suc (length l)
@@ -30,9 +27,9 @@ length_snoc l x = omega (arith, length-append l (x ∷ []))
 -- what the last used page is, by the ending
 abbrev pub Last : {Record : Type 0} → Ending Record → Option (Decoded Record) → Type 0
 Last unused d = ⊥
-Last (ended c) d = d ≡ some c
-Last (frayed c) d = d ≡ none
-Last foreign d = d ≡ none
+Last (ended c) d = d ≡ Some c
+Last (frayed c) d = d ≡ None
+Last foreign d = d ≡ None
 
 -- nothing is used
 abbrev pub NoneUsed : {Record : Type 0} → Ending Record → Type 0
@@ -43,16 +40,16 @@ NoneUsed foreign = ⊥
 
 -- the flight that the last used page counts with
 abbrev pub shown : {Record : Type 0} → Ending Record → Option ℕ
-shown unused = none
-shown (ended c) = some c.flight
-shown (frayed c) = some c.flight
-shown foreign = none
+shown unused = None
+shown (ended c) = Some c.flight
+shown (frayed c) = Some c.flight
+shown foreign = None
 
 -- unless the log is foreign, page 0 is whole
 abbrev pub Begun : {Record : Type 0} → Ending Record → Option (Decoded Record) → Type 0
 Begun unused d = Unit {0}
-Begun {Record} (ended g) d = (c : Decoded Record) × (d ≡ some c)
-Begun {Record} (frayed g) d = (c : Decoded Record) × (d ≡ some c)
+Begun {Record} (ended g) d = (c : Decoded Record) × (d ≡ Some c)
+Begun {Record} (frayed g) d = (c : Decoded Record) × (d ≡ Some c)
 Begun foreign d = Unit {0}
 
 module _ {Page Record Mask : Type 0} (S : PageStore Page Record Mask) (L : Lawful S) where
@@ -87,7 +84,7 @@ module _ {Page Record Mask : Type 0} (S : PageStore Page Record Mask) (L : Lawfu
       ap₂ (λ (p q : Page). or_else S (flight_of S (S.decode p)) (flight_of S (S.decode q))) (at_left l m (suc k) h) (at_left l m k (omega arith))
 
   -- a page that decodes has its own flight, and is not blank
-  pub flight_own : (l : List Page) (k : ℕ) (c : Decoded Record) → Whole S (page_at S l k) c → page_flight S l k ≡ some c.flight
+  pub flight_own : (l : List Page) (k : ℕ) (c : Decoded Record) → Whole S (page_at S l k) c → page_flight S l k ≡ Some c.flight
   flight_own l zero c d = rw d refl
   flight_own l (suc k) c d = rw d refl
 
@@ -127,7 +124,7 @@ module _ {Page Record Mask : Type 0} (S : PageStore Page Record Mask) (L : Lawfu
       each_snoc (λ q. ¬ (q ≡ S.blank)) pages page (λ j q. used_not_blank u j q) (whole_not_blank d) i h
   used_not_blank (torn_page {pages} {ending} {page} u a t) i h = each_snoc (λ q. ¬ (q ≡ S.blank)) pages page (λ j q. used_not_blank u j q) t.1 i h
 
-  last_torn : (st : Ending Record) (d : Option (Decoded Record)) → d ≡ none → Last (torn_more st) d
+  last_torn : (st : Ending Record) (d : Option (Decoded Record)) → d ≡ None → Last (torn_more st) d
   last_torn unused d e = e
   last_torn (ended g) d e = e
   last_torn (frayed g) d e = e
@@ -148,7 +145,7 @@ module _ {Page Record Mask : Type 0} (S : PageStore Page Record Mask) (L : Lawfu
   unused_none u zero h = refl
   unused_none u (suc k) h = absurd (last u k h)
 
-  torn_shown : (l : List Page) (st : Ending Record) (p : Page) → Follows S (LooseRule S) l st → Sound st → S.decode p ≡ none → (k : ℕ) → length l ≡ k
+  torn_shown : (l : List Page) (st : Ending Record) (p : Page) → Follows S (LooseRule S) l st → Sound st → S.decode p ≡ None → (k : ℕ) → length l ≡ k
       → page_flight S (l ++ p ∷ []) k ≡ shown (torn_more st)
   torn_shown l unused p u a d zero h = rw (at_snoc l p 0 (omega arith), d) refl
   torn_shown l unused p u a d (suc k) h = absurd (last u k h)
@@ -173,7 +170,7 @@ module _ {Page Record Mask : Type 0} (S : PageStore Page Record Mask) (L : Lawfu
   begun_torn l p foreign u b = tt
 
   begun_whole : (l : List Page) (p : Page) (st : Ending Record) (c : Decoded Record) → Follows S (LooseRule S) l st → NotFalling st c
-      → S.decode p ≡ some c → Begun st (S.decode (page_at S l 0)) → Begun (ended c) (S.decode (page_at S (l ++ p ∷ []) 0))
+      → S.decode p ≡ Some c → Begun st (S.decode (page_at S l 0)) → Begun (ended c) (S.decode (page_at S (l ++ p ∷ []) 0))
   begun_whole [] p st c u a d b = (c, d)
   begun_whole (q ∷ l) p unused c u a d b = absurd (last u (length l) refl)
   begun_whole (q ∷ l) p (ended h) c u a d b = b

@@ -1,7 +1,7 @@
 -- Two boards on one bench: which differences of their logs power cuts, failed programs and a busy store explain. Records are compared by a key of
 -- the reader's choice, as the record without its flight: a flight all of whose pages were lost gives its number away again, so flights may
 -- differ where nothing else does. proofs/Aligned, proofs/Tested, proofs/Boards and proofs/Shut show each statement here.
-use Rattle.std.specs.Prelude.{ℕ, ◌+◌, ◌≤◌, ◌≡◌, Bool, true, false, cond, ◌⊎◌, ◌↔◌, List, [], ◌∷◌, ◌++◌, leb, length}
+use Rattle.std.specs.Prelude.{ℕ, ◌+◌, ◌≤◌, ◌≡◌, Bool, true, false, cond, ◌⊎◌, ◌↔◌, List, [], ◌∷◌, ◌++◌, leb, length, map}
 use Rattle.power.specs.Pages.{PageStore, Each}
 use Rattle.power.specs.Reading.{records_on}
 use Rattle.power.specs.Scan.{scan}
@@ -28,12 +28,10 @@ pub record Front {A : Type 0} (xs ys : List A) : Type 0 where
 
 -- seen through a key
 abbrev pub seen : {A B : Type 0} → (A → B) → List A → List B
-seen view [] = []
-seen view (x ∷ xs) = view x ∷ seen view xs
+seen view = map view
 
 abbrev pub each_seen : {A B : Type 0} → (A → B) → List (List A) → List (List B)
-each_seen view [] = []
-each_seen view (xs ∷ parts) = seen view xs ∷ each_seen view parts
+each_seen view = map (seen view)
 
 -- list by list one is the front of the other
 abbrev pub NearAll : {A : Type 0} → ℕ → List (List A) → List (List A) → Type 0

@@ -2,8 +2,7 @@
 -- From document 01, "Writer and store". The queue is a list of records, first in, first out.
 -- The code's calls are log_writer/specs/Pass. That the two agree, on the view of writer, queue and image, is `drain_is` and `write_is`
 -- (power_views/proofs), and of whole scripts `DevicesAgree` (power_lives/specs/Theorem).
-use Rattle.std.specs.Prelude.{ℕ, zero, suc, Bool, true, false, cond, List, [], ◌∷◌, ◌++◌, ltb, length, set}
-use Rattle.std.proofs.Math.Option.{Option, none, some}
+use Rattle.std.specs.Prelude.{ℕ, zero, suc, Bool, true, false, cond, List, [], ◌∷◌, ◌++◌, ltb, length, set, Option, None, Some}
 use Rattle.power.specs.Pages.{PageStore}
 use Rattle.power.specs.Reading.{page_at}
 use Rattle.power.specs.Writer.{Writer, new, stopped, with_assembler, without_ready, waiting_for, taken, taken_record}
@@ -55,8 +54,8 @@ module _ {Page Record Mask : Type 0} (S : PageStore Page Record Mask) where
 
   -- "if self.pending.is_none() { self.pending = self.assembler.take_ready_page(); }"
   abbrev pub fetching : Option Page → Writer S → Writer S
-  fetching (some page) w = w
-  fetching none w = waiting_for S w.assembler.ready w.next_page (with_assembler S (without_ready S w.assembler) w)
+  fetching (Some page) w = w
+  fetching None w = waiting_for S w.assembler.ready w.next_page (with_assembler S (without_ready S w.assembler) w)
 
   -- the same of the writer's own waiting page
   abbrev pub fetched : Writer S → Writer S
@@ -67,7 +66,7 @@ module _ {Page Record Mask : Type 0} (S : PageStore Page Record Mask) where
   written left page p =
       record {
         log = programmed_at p.log p.writer.next_page page S.clean;
-        writer = waiting_for S none (suc p.writer.next_page) p.writer;
+        writer = waiting_for S None (suc p.writer.next_page) p.writer;
         queue = p.queue;
         succeed = left;
         next = p.next;
@@ -82,13 +81,13 @@ module _ {Page Record Mask : Type 0} (S : PageStore Page Record Mask) where
   failed keep page p =
       record {
         log = programmed_at p.log p.writer.next_page page keep;
-        writer = waiting_for S (some page) p.writer.next_page p.writer;
+        writer = waiting_for S (Some page) p.writer.next_page p.writer;
         queue = p.queue;
         succeed = 0;
         next = p.next;
         pages_written = p.pages_written;
         logged = p.logged;
-        unfinished = some (page, programmed_cell p.log p.writer.next_page page keep);
+        unfinished = Some (page, programmed_cell p.log p.writer.next_page page keep);
         power_gone = p.power_gone;
       }
 
@@ -103,7 +102,7 @@ module _ {Page Record Mask : Type 0} (S : PageStore Page Record Mask) where
         next = p.next;
         pages_written = p.pages_written;
         logged = p.logged;
-        unfinished = some (page, programmed_cell p.log p.writer.next_page page keep);
+        unfinished = Some (page, programmed_cell p.log p.writer.next_page page keep);
         power_gone = true;
       }
 
@@ -135,8 +134,8 @@ module _ {Page Record Mask : Type 0} (S : PageStore Page Record Mask) where
 
   -- the top of a turn of drain: the waiting page is written before another record is taken; a busy store holds it up
   abbrev pub put : Option Page → Pass → Step
-  put none p = goes_on p
-  put (some page) p = program_if_room p.succeed p.next page p
+  put None p = goes_on p
+  put (Some page) p = program_if_room p.succeed p.next page p
 
   -- with the page that waits, or else the one that is ready
   abbrev pub put_page : Pass → Step
@@ -241,8 +240,8 @@ module _ {Page Record Mask : Type 0} (S : PageStore Page Record Mask) where
 
   -- one program of the waiting page, if there is one
   abbrev pub write_one : Option Page → Pass → Pass
-  write_one none p = p
-  write_one (some page) p = ended_with (program_if_room (unasked p.succeed p.next) p.next page p)
+  write_one None p = p
+  write_one (Some page) p = ended_with (program_if_room (unasked p.succeed p.next) p.next page p)
 
   -- write_pending: the waiting page is programmed, whether or not the log is writable
   abbrev pub write_pending : Pass → Pass

@@ -1,7 +1,6 @@
 -- What demand 3 claims, sentence by sentence, as properties of pages that are read from the front, of what a scan and a search answer,
 -- and of the history of what was logged. Nothing here halves, and nothing here writes.
-use Rattle.std.specs.Prelude.{ℕ, suc, ◌+◌, ◌≤◌, ◌<◌, ◌≡◌, ◌⊎◌, ◌↔◌, List, [], ◌∷◌, ◌++◌, ltb, length}
-use Rattle.std.proofs.Math.Option.{Option, none, some}
+use Rattle.std.specs.Prelude.{ℕ, suc, ◌+◌, ◌≤◌, ◌<◌, ◌≡◌, ◌⊎◌, ◌↔◌, List, [], ◌∷◌, ◌++◌, ltb, length, Option, None, Some}
 use Rattle.power.specs.Pages.{Decoded, PageStore, Each, most_lost}
 use Rattle.power.specs.Reading.{ScanAnswer, foreign_answer, Span, Whole, Torn, page_at, first_blank, newest_flight, records_on}
 
@@ -67,8 +66,8 @@ module _ {Page Record Mask : Type 0} (S : PageStore Page Record Mask) where
   -- "Over those pages the search finds for a flight its whole pages and a torn page right after them, and nothing for a flight without
   -- whole pages."
   abbrev pub SearchFinds : List Page → ℕ → Option Span → Type 0
-  SearchFinds log flight none = (i : ℕ) → i < first_blank S log → ¬ WholeOf flight (page_at S log i)
-  SearchFinds log flight (some span) = SpanOf log flight span
+  SearchFinds log flight None = (i : ℕ) → i < first_blank S log → ¬ WholeOf flight (page_at S log i)
+  SearchFinds log flight (Some span) = SpanOf log flight span
 
   -- (f) P9: "A log may hold both, but a flight has one"
   -- The records of two whole pages of one flight are all of one edition.

@@ -1,6 +1,5 @@
 -- Lives on the small store of four pages, computed by the checker: the corners in which a wrong writer or a wrong scan would show.
-use Rattle.std.specs.Prelude.{ℕ, ◌≡◌, refl, true, false, List, [], ◌∷◌}
-use Rattle.std.proofs.Math.Option.{Option, none, some}
+use Rattle.std.specs.Prelude.{ℕ, ◌≡◌, refl, true, false, List, [], ◌∷◌, Option, None, Some}
 use Rattle.laws.specs.Halving.{bisect, bisecting}
 use Rattle.power.specs.Reading.{ScanAnswer, foreign_answer, Span}
 use Rattle.power.specs.Scan.{scan, find}
@@ -109,7 +108,7 @@ one_torn_lem : Leaves one_torn
 unfolding one_torn bisect bisecting
 one_torn_lem = (refl, refl, refl)
 
-one_torn_found : Finds one_torn 2 1 (some (record { start = 0; pages = 2 }))
+one_torn_found : Finds one_torn 2 1 (Some (record { start = 0; pages = 2 }))
 unfolding one_torn bisect bisecting
 one_torn_found = refl
 
@@ -128,8 +127,8 @@ given_again_lem : Leaves given_again
 unfolding given_again bisect bisecting
 given_again_lem = (refl, refl, refl)
 
-given_again_found : Finds given_again 3 1 (some (record { start = 0; pages = 2 })) × Finds given_again 3 2 (some (record { start = 2; pages = 1 }))
-    × Finds given_again 3 3 none
+given_again_found : Finds given_again 3 1 (Some (record { start = 0; pages = 2 })) × Finds given_again 3 2 (Some (record { start = 2; pages = 1 }))
+    × Finds given_again 3 3 None
 unfolding given_again bisect bisecting
 given_again_found = (refl, refl, refl)
 

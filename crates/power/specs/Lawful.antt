@@ -1,8 +1,7 @@
 -- The laws that a page store must meet: what demand 3 has to know of pages, records and masks, and all that the theorems ask of a store. Each
 -- theorem is over a store and these laws of it; power_pages shows them of the page of 256 bytes, proofs/Small of the small store.
 -- From document 01, "Bytes on flash" and "Writer and store".
-use Rattle.std.specs.Prelude.{ℕ, suc, ◌<◌, ◌≡◌, true, ◌↔◌, List}
-use Rattle.std.proofs.Math.Option.{none, some}
+use Rattle.std.specs.Prelude.{ℕ, suc, ◌<◌, ◌≡◌, true, ◌↔◌, List, None, Some}
 use Rattle.power.specs.Pages.{PageStore, Packs}
 
 pub record Lawful {Page Record Mask : Type 0} (S : PageStore Page Record Mask) : Type 0 where
@@ -18,9 +17,9 @@ pub record Lawful {Page Record Mask : Type 0} (S : PageStore Page Record Mask) :
   pub fits_marked : (r : Record) → S.Fits r → S.Fits (S.marked r)
   pub mark_set : (r : Record) → S.has_mark (S.marked r) ≡ true
   -- a blank page doesn't decode, and a page that was made of rows decodes to them
-  pub decode_blank : S.decode S.blank ≡ none
+  pub decode_blank : S.decode S.blank ≡ None
   pub decode_encode : (e : S.Edition) (f s : ℕ) (rows : List Record) → f < S.limit → s < S.limit → Packs S e rows
-      → S.decode (S.encode f s rows) ≡ some (record { flight = f; sequence = s; rows = rows })
+      → S.decode (S.encode f s rows) ≡ Some (record { flight = f; sequence = s; rows = rows })
   -- a program that succeeds on a blank page makes it; over what an unfinished one left it makes the same; a whole page stays under it
   pub program_blank : (e : S.Edition) (f s : ℕ) (rows : List Record) → f < S.limit → s < S.limit → Packs S e rows
       → S.programmed S.blank (S.encode f s rows) S.clean ≡ S.encode f s rows

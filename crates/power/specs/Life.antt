@@ -1,7 +1,6 @@
 -- The device through any number of power-ons: a life is a list of calls, and the history says what was logged in each power-on.
 -- And the two assumptions of demand 3, as properties of a life.
-use Rattle.std.specs.Prelude.{ℕ, ◌<◌, ◌≡◌, false, ◌⊎◌, List, [], ◌∷◌, ◌++◌}
-use Rattle.std.proofs.Math.Option.{Option, none, some}
+use Rattle.std.specs.Prelude.{ℕ, ◌<◌, ◌≡◌, false, ◌⊎◌, List, [], ◌∷◌, ◌++◌, Option, None, Some}
 use Rattle.power.specs.Pages.{PageStore, Each}
 use Rattle.power.specs.Writer.{Writer, new, recover}
 use Rattle.power.specs.Calls.{Next, Order, Pass, drain, write_pending}
@@ -35,7 +34,7 @@ module _ {Page Record Mask : Type 0} (S : PageStore Page Record Mask) where
         next = next;
         pages_written = 0;
         logged = [];
-        unfinished = none;
+        unfinished = None;
         power_gone = false;
       }
 
@@ -74,8 +73,8 @@ module _ {Page Record Mask : Type 0} (S : PageStore Page Record Mask) where
   -- ASSUMED: "no unfinished page decodes". A program that did not finish left something that doesn't decode, or the page itself: then it
   -- did finish.
   abbrev pub Undecoded : Option (Page × Page) → Type 0
-  Undecoded none = Unit {0}
-  Undecoded (some (page, left)) = (S.decode left ≡ none) ⊎ (left ≡ page)
+  Undecoded None = Unit {0}
+  Undecoded (Some (page, left)) = (S.decode left ≡ None) ⊎ (left ≡ page)
 
   -- what is assumed of a call; and what is offered to the queue is a record
   abbrev pub Assumed : Call → Device → Type 0

@@ -2,8 +2,7 @@
 -- speaks of lives, leaves no moment out. When power goes, what counts is the log and what was logged: the writer and the queue are gone.
 -- The law says also how large that life is: a bound on the numbers of the call bounds those of the life, and where the masks of the call
 -- and of the moment are allowed, so are the life's. Which masks are allowed is left open.
-use Rattle.std.specs.Prelude.{ℕ, suc, ◌≤◌, ◌<◌, ◌≡◌, Bool, true, ◌⊎◌, List, [], ◌∷◌, length}
-use Rattle.std.proofs.Math.Option.{some}
+use Rattle.std.specs.Prelude.{ℕ, suc, ◌≤◌, ◌<◌, ◌≡◌, Bool, true, ◌⊎◌, List, [], ◌∷◌, length, Some}
 use Rattle.power.specs.Pages.{PageStore, Each}
 use Rattle.power.specs.Reading.{records_on}
 use Rattle.power.specs.Calls.{Next, Order, busy, fault, cut, Pass, goes_on, ends, fetched, fetched_if_writable, with_writer, severed, put_page, take_one}
@@ -17,7 +16,7 @@ module _ {Page Record Mask : Type 0} (S : PageStore Page Record Mask) (Allowed :
     -- at the top of a turn
     at_top : {turns : ℕ} {p : Pass S} → During while_disarmed turns p p
     -- in the midst of a program of the page that waits, any bits of it unprogrammed, by a mask that is allowed
-    in_program : {turns : ℕ} {p : Pass S} (page : Page) (keep : Mask) → Allowed keep → (fetched S p.writer).waiting ≡ some page
+    in_program : {turns : ℕ} {p : Pass S} (page : Page) (keep : Mask) → Allowed keep → (fetched S p.writer).waiting ≡ Some page
         → (fetched S p.writer).next_page < length p.log
         → During while_disarmed (suc turns) p (severed S keep page (with_writer S (fetched S p.writer) p))
     -- after the page was put, before a record is taken
@@ -41,7 +40,7 @@ module _ {Page Record Mask : Type 0} (S : PageStore Page Record Mask) (Allowed :
         → Moment (drains order) d (after_pass S d m)
     -- in the midst of write_pending's program, likewise
     in_write : {d : Device S} (succeed : ℕ) (next : Next Mask) (page : Page) (keep : Mask) → Allowed keep
-        → (fetched_if_writable S d.writer).waiting ≡ some page
+        → (fetched_if_writable S d.writer).waiting ≡ Some page
         → (fetched_if_writable S d.writer).next_page < length d.log
         → Undecoded S (severed S keep page (with_writer S (fetched_if_writable S d.writer) (begin S d succeed next))).unfinished
         → Moment (writes succeed next) d (after_pass S d (severed S keep page (with_writer S (fetched_if_writable S d.writer) (begin S d succeed next))))

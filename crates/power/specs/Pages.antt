@@ -1,7 +1,6 @@
 -- The pages of the log with no byte in them: what demand 3 has to know of a page store. The page of 256 bytes is one instance.
 -- From document 01, "Bytes on flash" and "Writer and store".
-use Rattle.std.specs.Prelude.{ℕ, ◌≤◌, ◌≡◌, Bool, not, List, [], ◌∷◌, ltb, length}
-use Rattle.std.proofs.Math.Option.{Option}
+use Rattle.std.specs.Prelude.{ℕ, ◌≤◌, ◌≡◌, Bool, not, List, [], ◌∷◌, ltb, length, Option, map}
 
 -- what a page that decodes says: its flight, its page sequence and the records that it is made of, as rows
 pub record Decoded (Record : Type 0) : Type 0 where
@@ -11,8 +10,7 @@ pub record Decoded (Record : Type 0) : Type 0 where
 
 -- the rows of a page of that flight, each with its flight
 abbrev pub in_flight : {Record : Type 0} → ℕ → List Record → List (ℕ × Record)
-in_flight flight [] = []
-in_flight flight (r ∷ rows) = (flight, r) ∷ in_flight flight rows
+in_flight flight = map (λ r. (flight, r))
 
 -- something holds of each element of a list
 abbrev pub Each : {A : Type 0} → (A → Type 0) → List A → Type 0

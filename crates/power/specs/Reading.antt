@@ -1,7 +1,6 @@
 -- A log read from the front, page by page: blank, whole, torn, used, the records on flash; and what a scan and a search answer.
 -- From document 01, "Scan, search and acknowledgements". Nothing here halves, and nothing here writes.
-use Rattle.std.specs.Prelude.{ℕ, suc, ◌≡◌, Bool, false, cond, List, [], ◌∷◌, ◌++◌, get_or}
-use Rattle.std.proofs.Math.Option.{Option, none, some}
+use Rattle.std.specs.Prelude.{ℕ, suc, ◌≡◌, Bool, false, cond, List, [], ◌∷◌, ◌++◌, get_or, Option, None, Some}
 use Rattle.power.specs.Pages.{Decoded, PageStore, in_flight}
 
 -- what a scan answers: the next page, the next flight, and whether the log may be written
@@ -27,11 +26,11 @@ module _ {Page Record Mask : Type 0} (S : PageStore Page Record Mask) where
 
   -- a whole page decodes
   abbrev pub Whole : Page → Decoded Record → Type 0
-  Whole page content = S.decode page ≡ some content
+  Whole page content = S.decode page ≡ Some content
 
   -- a torn page is used, so it is not blank, and it doesn't decode
   abbrev pub Torn : Page → Type 0
-  Torn page = (S.decode page ≡ none) × ¬ (page ≡ S.blank)
+  Torn page = (S.decode page ≡ None) × ¬ (page ≡ S.blank)
 
   -- page i of the log; past its end nothing was written
   abbrev pub page_at : List Page → ℕ → Page
@@ -44,8 +43,8 @@ module _ {Page Record Mask : Type 0} (S : PageStore Page Record Mask) where
 
   -- the flight that a page says, or else another
   abbrev pub flight_or : Option (Decoded Record) → ℕ → ℕ
-  flight_or none other = other
-  flight_or (some content) other = content.flight
+  flight_or None other = other
+  flight_or (Some content) other = content.flight
 
   -- the flight of the last whole page, or else another
   abbrev pub newest_after : ℕ → List Page → ℕ
@@ -58,8 +57,8 @@ module _ {Page Record Mask : Type 0} (S : PageStore Page Record Mask) where
 
   -- the records that a page holds, each with its flight
   abbrev pub records_of : Option (Decoded Record) → List (ℕ × Record)
-  records_of none = []
-  records_of (some content) = in_flight content.flight content.rows
+  records_of None = []
+  records_of (Some content) = in_flight content.flight content.rows
 
   -- the records on flash, each with its flight, in page order
   abbrev pub records_on : List Page → List (ℕ × Record)

@@ -1,8 +1,7 @@
 -- The laws of the calls that demand 3 leans on: what pages_written counts, and that exactly the records are logged that should be. Without the
 -- second a drain that loses records on their way to the assembler would still meet demand 3.
 -- From document 01, "What a reader may conclude from a contract" and "Writer and store".
-use Rattle.std.specs.Prelude.{ℕ, ◌+◌, ◌≡◌, Bool, true, false, cond, List, [], ◌∷◌, ◌++◌}
-use Rattle.std.proofs.Math.Option.{Option, none, some}
+use Rattle.std.specs.Prelude.{ℕ, ◌+◌, ◌≡◌, Bool, true, false, cond, List, [], ◌∷◌, ◌++◌, Option, None, Some}
 use Rattle.power.specs.Pages.{PageStore}
 use Rattle.power.specs.Writer.{Writer}
 use Rattle.power.specs.Calls.{Next, Order, Pass, logs, drain, write_pending}
@@ -30,8 +29,8 @@ module _ {Page Record Mask : Type 0} (S : PageStore Page Record Mask) where
 
   -- the edition of the flight that is recorded, if one is
   abbrev pub edition_if : Bool → S.Edition → Option S.Edition
-  edition_if true e = some e
-  edition_if false e = none
+  edition_if true e = Some e
+  edition_if false e = None
 
   abbrev pub recorded_as : Writer S → Option S.Edition
   recorded_as w = edition_if w.assembler.recording w.assembler.edition
@@ -39,9 +38,9 @@ module _ {Page Record Mask : Type 0} (S : PageStore Page Record Mask) where
   -- one record, by whether it is to be logged: it begins a flight of its edition, or continues one of its edition, or is refused by one of
   -- the other edition, which it neither ends nor alters; or it ends the flight
   abbrev pub logs_one : Bool → Option S.Edition → Record → (Option S.Edition → List Record) → List Record
-  logs_one true none r rest = r ∷ rest (some (S.edition r))
-  logs_one true (some e) r rest = cond (S.joins e r) (r ∷ rest (some e)) (rest (some e))
-  logs_one false flight r rest = rest none
+  logs_one true None r rest = r ∷ rest (Some (S.edition r))
+  logs_one true (Some e) r rest = cond (S.joins e r) (r ∷ rest (Some e)) (rest (Some e))
+  logs_one false flight r rest = rest None
 
   -- the records that are to be logged: all of them, or the armed ones, but for those of the other edition than the flight's
   abbrev pub logged_ones : Bool → Option S.Edition → List Record → List Record

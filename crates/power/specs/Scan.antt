@@ -1,7 +1,6 @@
 -- The scan and the search as the code does them, by halving, over pages that read without a fault.
 -- From document 01, "Scan, search and acknowledgements", and the Rust's scan_log, page_flight_id and find_flight.
-use Rattle.std.specs.Prelude.{ℕ, zero, suc, ◌-◌, ◌<◌, ◌≡◌, true, cond, List, ltb, leb, eqb, length}
-use Rattle.std.proofs.Math.Option.{Option, none, some}
+use Rattle.std.specs.Prelude.{ℕ, zero, suc, ◌-◌, ◌<◌, ◌≡◌, true, cond, List, ltb, leb, eqb, length, Option, None, Some}
 use Rattle.laws.specs.Halving.{bisecting}
 use Rattle.power.specs.Pages.{Decoded, PageStore}
 use Rattle.power.specs.Reading.{ScanAnswer, foreign_answer, Span, page_at}
@@ -9,13 +8,13 @@ use Rattle.power.specs.Reading.{ScanAnswer, foreign_answer, Span, page_at}
 module _ {Page Record Mask : Type 0} (S : PageStore Page Record Mask) where
   -- the flight that a page says
   abbrev pub flight_of : Option (Decoded Record) → Option ℕ
-  flight_of none = none
-  flight_of (some content) = some content.flight
+  flight_of None = None
+  flight_of (Some content) = Some content.flight
 
   -- one flight, or else another
   abbrev pub or_else : Option ℕ → Option ℕ → Option ℕ
-  or_else none other = other
-  or_else (some flight) other = some flight
+  or_else None other = other
+  or_else (Some flight) other = Some flight
 
   -- a page's own flight, if it decodes
   abbrev pub own_flight : List Page → ℕ → Option ℕ
@@ -32,13 +31,13 @@ module _ {Page Record Mask : Type 0} (S : PageStore Page Record Mask) where
 
   -- "page 0 must decode .. else foreign"
   abbrev pub if_begun : Option ℕ → ScanAnswer → ScanAnswer
-  if_begun none answer = foreign_answer
-  if_begun (some flight) answer = answer
+  if_begun None answer = foreign_answer
+  if_begun (Some flight) answer = answer
 
   -- "the last used page must have a flight, else foreign"; "Next flight is newest + 1, with 0 replaced by 1; writable if a blank page remains"
   abbrev pub appending : List Page → ℕ → Option ℕ → ScanAnswer
-  appending log used none = foreign_answer
-  appending log used (some newest) = record { page = used; flight = S.flight_after newest; writable = ltb used (length log) }
+  appending log used None = foreign_answer
+  appending log used (Some newest) = record { page = used; flight = S.flight_after newest; writable = ltb used (length log) }
 
   -- the verdict over the used pages: "Nothing used: (0, 1, true)"
   abbrev pub verdict : List Page → ℕ → ScanAnswer
@@ -51,12 +50,12 @@ module _ {Page Record Mask : Type 0} (S : PageStore Page Record Mask) where
 
   -- the number of a page's flight, where it has one
   abbrev pub number_of : Option ℕ → ℕ
-  number_of none = 0
-  number_of (some flight) = flight
+  number_of None = 0
+  number_of (Some flight) = flight
 
   -- each of so many pages has a flight
   abbrev pub FlightsKnown : List Page → ℕ → Type 0
-  FlightsKnown log used = (i : ℕ) → i < used → (flight : ℕ) × (page_flight log i ≡ some flight)
+  FlightsKnown log used = (i : ℕ) → i < used → (flight : ℕ) × (page_flight log i ≡ Some flight)
 
   -- the number that the search compares for page i
   abbrev pub flight_number : List Page → ℕ → ℕ
@@ -74,5 +73,5 @@ module _ {Page Record Mask : Type 0} (S : PageStore Page Record Mask) where
   abbrev pub find : List Page → ℕ → ℕ → Option Span
   find log used flight =
       cond (ltb (first_from log used flight) used)
-      (cond (eqb (flight_number log (first_from log used flight)) flight) (some (span (first_from log used flight) (first_from log used (suc flight)))) none)
-      none
+      (cond (eqb (flight_number log (first_from log used flight)) flight) (Some (span (first_from log used flight) (first_from log used (suc flight)))) None)
+      None

@@ -1,7 +1,6 @@
 -- A small page store of two editions: two records to a page, or three, and a page is blank, torn or whole. It meets the laws of a page store
 -- (proofs/Small), so what the theorems ask can be met, and lives on it can be computed: specs/Examples and specs/BoardExamples have some.
-use Rattle.std.specs.Prelude.{ℕ, suc, Bool, true, false, List}
-use Rattle.std.proofs.Math.Option.{Option, none, some}
+use Rattle.std.specs.Prelude.{ℕ, suc, Bool, true, false, List, Option, None, Some}
 use Rattle.power.specs.Pages.{Decoded, PageStore}
 
 -- a record of the first edition, or of the second: armed or not, with the boot-session bit or not, and a number to tell it by
@@ -35,9 +34,9 @@ pub data SmallMask : Type 0 where
 
 -- a page that is whole decodes to what it says
 abbrev small_decode : SmallPage → Option (Decoded SmallRecord)
-small_decode clear = none
-small_decode ragged = none
-small_decode (sheet f s rows) = some (record { flight = f; sequence = s; rows = rows })
+small_decode clear = None
+small_decode ragged = None
+small_decode (sheet f s rows) = Some (record { flight = f; sequence = s; rows = rows })
 
 -- nothing makes a programmed bit blank again: a whole page stays, and a torn one becomes whole or stays torn
 abbrev pub small_programmed : SmallPage → SmallPage → SmallMask → SmallPage

@@ -1,7 +1,6 @@
 -- Where the assumption "no unfinished page decodes" is met whatever the checksum would say: lives whose unfinished programs leave something
 -- unprogrammed without which a page doesn't decode. proofs/Spared shows each statement here.
-use Rattle.std.specs.Prelude.{ℕ, ◌+◌, ◌≤◌, ◌<◌, ◌≡◌, List, [], ◌∷◌}
-use Rattle.std.proofs.Math.Option.{none}
+use Rattle.std.specs.Prelude.{ℕ, ◌+◌, ◌≤◌, ◌<◌, ◌≡◌, List, [], ◌∷◌, None}
 use Rattle.power.specs.Pages.{PageStore, Each}
 use Rattle.power.specs.Calls.{Next, busy, fault, cut}
 use Rattle.power.specs.Life.{Call, offers, drains, writes, powers, unpowered, AllAssumed}
@@ -15,7 +14,7 @@ module _ {Page Record Mask : Type 0} (S : PageStore Page Record Mask) where
     -- a program whose mask spares it leaves it, whatever the page that is programmed
     pub stays : (old target : Page) (keep : Mask) → Scar old → Spares keep → Scar (S.programmed old target keep)
     -- no page that has it decodes
-    pub undecoded : (page : Page) → Scar page → S.decode page ≡ none
+    pub undecoded : (page : Page) → Scar page → S.decode page ≡ None
 
   -- what the next program does spares it; a busy store programs nothing
   abbrev pub NextSpares : (Mask → Type 0) → Next Mask → Type 0

@@ -1,7 +1,6 @@
 -- Where torn pages come from: at most one from a power-on, only where a program was cut or failed, and gone again if a later program makes the page
 -- whole. And what may stand behind one. proofs/Torn and proofs/TornEnds show each statement here.
-use Rattle.std.specs.Prelude.{ℕ, suc, ◌+◌, ◌≤◌, ◌<◌, ◌⊎◌, ◌≡◌, Bool, true, false, List, [], ◌∷◌}
-use Rattle.std.proofs.Math.Option.{Option, none, some}
+use Rattle.std.specs.Prelude.{ℕ, suc, ◌+◌, ◌≤◌, ◌<◌, ◌⊎◌, ◌≡◌, Bool, true, false, List, [], ◌∷◌, Option, None, Some}
 use Rattle.power.specs.Pages.{Decoded, PageStore}
 use Rattle.power.specs.Reading.{Whole, Torn, page_at}
 use Rattle.power.specs.Calls.{drain, write_pending}
@@ -12,9 +11,9 @@ use Rattle.power.specs.Segments.{Board}
 module _ {Page Record Mask : Type 0} (S : PageStore Page Record Mask) where
   -- a page counts as torn if it is used and doesn't decode
   abbrev pub torn_one : Bool → Option (Decoded Record) → ℕ
-  torn_one blank (some content) = 0
-  torn_one true none = 0
-  torn_one false none = 1
+  torn_one blank (Some content) = 0
+  torn_one true None = 0
+  torn_one false None = 1
 
   -- how many torn pages a log has
   abbrev pub torn_in : List Page → ℕ
@@ -31,14 +30,14 @@ module _ {Page Record Mask : Type 0} (S : PageStore Page Record Mask) where
 
   -- what the program that a call left unfinished should have made and what it left in its place, if there was one: it was cut, or it failed
   abbrev pub unfinished_in : Call S → Device S → Option (Page × Page)
-  unfinished_in (offers r) d = none
+  unfinished_in (offers r) d = None
   unfinished_in (drains order) d = (drain S order (ordered S d order)).unfinished
   unfinished_in (writes succeed next) d = (write_pending S (begin S d succeed next)).unfinished
-  unfinished_in powers d = none
+  unfinished_in powers d = None
 
   -- a call that left no program unfinished
   abbrev pub Finished : Call S → Device S → Type 0
-  Finished c d = unfinished_in c d ≡ none
+  Finished c d = unfinished_in c d ≡ None
 
   abbrev pub AllFinished : List (Call S) → Device S → Type 0
   AllFinished [] d = Unit {0}
@@ -48,7 +47,7 @@ module _ {Page Record Mask : Type 0} (S : PageStore Page Record Mask) where
   -- waits, so that a program which finishes the page makes it whole
   pub record TornOnce (before : ℕ) (d : Device S) : Type 0 where
     pub at_most_one : torn_in d.log ≤ suc before
-    pub only_waiting : d.writer.writable ≡ true → d.writer.waiting ≡ none → torn_in d.log ≤ before
+    pub only_waiting : d.writer.writable ≡ true → d.writer.waiting ≡ None → torn_in d.log ≤ before
 
   -- so it is in every power-on of every life from an erased log
   abbrev pub AtMostOneTorn : Type 0
@@ -71,7 +70,7 @@ module _ {Page Record Mask : Type 0} (S : PageStore Page Record Mask) where
       (pages : ℕ) → 0 < pages → pages + 2 ≤ S.limit → (life : List (Call S)) (c : Call S) → AllAssumed S life (unpowered S (erased S pages))
       → Assumed S c (after S pages life) → (i : ℕ) → Torn S (page_at S (call S c (after S pages life)).log i)
       → Torn S (page_at S (after S pages life).log i)
-      ⊎ ((page : Page) × (unfinished_in c (after S pages life) ≡ some (page, page_at S (call S c (after S pages life)).log i)))
+      ⊎ ((page : Page) × (unfinished_in c (after S pages life) ≡ Some (page, page_at S (call S c (after S pages life)).log i)))
 
   -- ---- what stands behind a torn page
 

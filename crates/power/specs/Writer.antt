@@ -1,7 +1,6 @@
 -- The writer as the Rust has it: PageAssembler of records.rs and LogWriter of log_writer.rs, and what one record does to it.
 -- From document 01, "Writer and store".
-use Rattle.std.specs.Prelude.{ℕ, Bool, true, false, cond, List, [], ◌∷◌, ◌++◌}
-use Rattle.std.proofs.Math.Option.{Option, none, some}
+use Rattle.std.specs.Prelude.{ℕ, Bool, true, false, cond, List, [], ◌∷◌, ◌++◌, Option, None, Some}
 use Rattle.power.specs.Pages.{PageStore, full}
 use Rattle.power.specs.Reading.{ScanAnswer}
 
@@ -29,8 +28,8 @@ module _ {Page Record Mask : Type 0} (S : PageStore Page Record Mask) where
   abbrev pub new : Writer
   new =
       record {
-        assembler = record { rows = []; flight = 0; sequence = 0; recording = false; mark_pending = false; edition = S.fresh_edition; ready = none };
-        waiting = none;
+        assembler = record { rows = []; flight = 0; sequence = 0; recording = false; mark_pending = false; edition = S.fresh_edition; ready = None };
+        waiting = None;
         next_page = 0;
         next_flight = 1;
         writable = false;
@@ -59,12 +58,12 @@ module _ {Page Record Mask : Type 0} (S : PageStore Page Record Mask) where
         recording = a.recording;
         mark_pending = a.mark_pending;
         edition = a.edition;
-        ready = some (S.encode a.flight a.sequence a.rows);
+        ready = Some (S.encode a.flight a.sequence a.rows);
       }
 
   -- start: a new flight, of the edition of its first record; nothing is left of what was assembled before
   abbrev pub started : ℕ → Bool → S.Edition → Assembler
-  started flight mark e = record { rows = []; flight = flight; sequence = 0; recording = true; mark_pending = mark; edition = e; ready = none }
+  started flight mark e = record { rows = []; flight = flight; sequence = 0; recording = true; mark_pending = mark; edition = e; ready = None }
 
   -- a record as it is stored: with the boot-session mark if that is pending
   abbrev pub stored : Assembler → Record → Record
@@ -121,7 +120,7 @@ module _ {Page Record Mask : Type 0} (S : PageStore Page Record Mask) where
         recording = a.recording;
         mark_pending = a.mark_pending;
         edition = a.edition;
-        ready = none;
+        ready = None;
       }
 
   -- the writer with that page waiting, or none, to be written at that address

@@ -2,7 +2,7 @@
 use Prim.Native.Nat.{ℕ, ◌+◌, ◌≤◌}
 use mathlib.Core.Path.{◌≡◌, refl, sym, ap, ◌∙◌, subst}
 use mathlib.Core.Bool.{Bool, true, false, cond, false≢true}
-use mathlib.Core.Option.{none, Option, some}
+use Rattle.std.specs.Prelude.{None, Option, Some, is_some}
 use mathlib.Core.Logic.{◌↔◌, inl, ◌⊎◌, inr}
 use mathlib.Core.List.{List, [], ◌∷◌, ◌++◌, append-nil}
 use native.Mathlib.Omega.{arith}
@@ -37,7 +37,6 @@ use Rattle.power_pages.proofs.Real.{real_lawful}
 use Rattle.script.specs.Script.{Operation, offers, drains, writes, powers, recovers, resets, flushes, operations}
 use Rattle.script.specs.Laws.{EachWrites}
 use Rattle.script.proofs.Laws.{rows_fit}
-use Rattle.power_views.specs.Views.{if_there}
 use Rattle.rig.specs.Rig.{unpowered, played, image_after, plays_image, after_play}
 use Rattle.rig.specs.declared.Bench.{Bench}
 use Rattle.power_lives.specs.Lives.{EachOfLife, takes, drain_of, write_of, calls_of, life_from, life_of, life_after, device_before, device_after}
@@ -161,10 +160,10 @@ no_power (recovers page flight writable ∷ os) b c image h = no_power os _ c _ 
 no_power (resets ∷ os) b c image h = no_power os _ c _ h
 no_power (flushes buffered clock ∷ os) b c image h = no_power os _ c _ h
 
--- a page waits where the flag says so
-none_waits : (b : Bool) (page : List ℕ) → b ≡ false → if_there b page ≡ none
-none_waits true page e = absurd (false≢true (sym e))
-none_waits false page e = refl
+-- where no page waits, none is there
+none_waits : (pending : Option (List ℕ)) → is_some pending ≡ false → pending ≡ None
+none_waits (Some page) e = absurd (false≢true (sym e))
+none_waits None e = refl
 
 module _ (c : ℕ) (image script output longer output' : List ℕ) (p : Plays c image script output) (b : Board c image longer output')
     (calls : List (Call real)) (e : life_of c image longer ≡ life_of c image script ++ calls) where
@@ -212,7 +211,7 @@ module _ (c : ℕ) (image script output longer output' : List ℕ) (p : Plays c 
   left_by : (x : Call real) → calls ≡ x ∷ [] → (i : ℕ) → Torn real (page_at real (log_of c (after_play c image longer output')) i)
       → Torn real (page_at real (log_of c (after_play c image script output)) i)
       ⊎ ((page : List ℕ) × (◌≡◌ {A = Option (List ℕ × List ℕ)} (Theory.unfinished_in real x (device_after c image script))
-      (some (page, page_at real (log_of c (after_play c image longer output')) i))))
+      (Some (page, page_at real (log_of c (after_play c image longer output')) i))))
   left_by x q i t =
       go
       (Torn.torn_is_left real real_lawful (pages_in c) (some_pages c p.valid) (few_pages c p.valid) (life_of c image script) x parts.0 one.0 i
@@ -226,16 +225,16 @@ module _ (c : ℕ) (image script output longer output' : List ℕ) (p : Plays c 
 
       go : Torn real (page_at real (Life.lives real (life_of c image script) blank).log i)
           ⊎ ((page : List ℕ) × (◌≡◌ {A = Option (List ℕ × List ℕ)} (Theory.unfinished_in real x (Life.lives real (life_of c image script) blank))
-          (some (page, page_at real (Life.call real x (Life.lives real (life_of c image script) blank)).log i))))
+          (Some (page, page_at real (Life.call real x (Life.lives real (life_of c image script) blank)).log i))))
           → Torn real (page_at real (log_of c (after_play c image script output)) i)
           ⊎ ((page : List ℕ) × (◌≡◌ {A = Option (List ℕ × List ℕ)} (Theory.unfinished_in real x (device_after c image script))
-          (some (page, page_at real (log_of c (after_play c image longer output')) i))))
+          (Some (page, page_at real (log_of c (after_play c image longer output')) i))))
       go (inl s) = inl (subst (λ (log : List (List ℕ)). Torn real (page_at real log i)) log_before s)
       go (inr s) =
           inr (
             s.0,
             ap (Theory.unfinished_in real x) (sym device_before_lem) ∙ s.1
-                ∙ ap {B = Option (List ℕ × List ℕ)} (λ (log : List (List ℕ)). some (s.0, page_at real log i)) log_one,
+                ∙ ap {B = Option (List ℕ × List ℕ)} (λ (log : List (List ℕ)). Some (s.0, page_at real log i)) log_one,
           )
 
   -- where none is, the log is as it was
@@ -295,7 +294,7 @@ one_torn_page c image script output longer output' more p b e once =
             before,
             after,
             t.only_waiting (ap (λ (w : Model.Writer real). w.writable) writer ∙ on)
-                (ap (λ (w : Model.Writer real). w.waiting) writer ∙ none_waits (bench_after c image longer).writer.has_pending (bench_after c image longer).writer.pending free),
+                (ap (λ (w : Model.Writer real). w.waiting) writer ∙ none_waits (bench_after c image longer).writer.pending free),
           );
     }
 

@@ -5,7 +5,7 @@ use mathlib.Core.Path.{◌≡◌, refl, sym, ap, ◌∙◌}
 use mathlib.Core.Bool.{true}
 use mathlib.Core.Logic.{◌↔◌}
 use mathlib.Core.List.{List}
-use mathlib.Core.Option.{none}
+use Rattle.std.specs.Prelude.{None}
 use native.Mathlib.Decide.{dec_lt}
 use native.Mathlib.Omega.{arith}
 use lib.ListN.{length}
@@ -21,15 +21,11 @@ use Rattle.layout.specs.Layout.{valid_capacity, pages_in}
 use Rattle.layout.proofs.Capacity.{valid}
 use Rattle.blackbox.specs.Page.{decoded}
 use Rattle.blackbox.specs.declared.PageMetadata.{PageMetadata}
-use Rattle.blackbox.proofs.Laws.{no_fault}
 use Rattle.store.specs.Store.{no_faults}
-use Rattle.records.specs.Pages.{page_in}
+use Rattle.records.specs.Pages.{page_in, Refused, refused}
 use Rattle.records.specs.Scan.{used_pages}
-use Rattle.records.specs.Explain.{torn_pages, explained}
+use Rattle.records.specs.Explain.{ToldPages, ToldReason, first_torn, last_torn, torn_pages, explained}
 use Rattle.records.specs.Laws.{Holds, NoneBefore}
-use Rattle.records.specs.declared.Reason.{Reason}
-use Rattle.records.specs.declared.Reason.TheVariants as Why
-use Rattle.records.specs.declared.TornPages.{TornPages}
 use Rattle.records.proofs.Reasons.{reason_of_scan, first_to_hold}
 use Rattle.power_pages.specs.Store.{content_in, content, real}
 use Rattle.power_pages.proofs.Real.{real_lawful}
@@ -41,22 +37,22 @@ use Rattle.power_lives.proofs.Lives.{none_faulty}
 use Rattle.power_lives.proofs.Theorem.{after_long, first_within, demand_3}
 
 -- a page doesn't decode, as the theory has it and as the decoder says
-undecoded : (page : List ℕ) → ((number : ℕ) × (decoded page ≡ refuses number 0)) ↔ (content page ≡ none)
+undecoded : (page : List ℕ) → ((by : Refused) × (decoded page ≡ refuses by.number by.fault)) ↔ (content page ≡ None)
 unfolding content
 undecoded page = go (decoded page) refl
   where
-    go : (d : Answer PageMetadata) → decoded page ≡ d → ((number : ℕ) × (decoded page ≡ refuses number 0)) ↔ (content_in page (decoded page) ≡ none)
+    go : (d : Answer PageMetadata) → decoded page ≡ d → ((by : Refused) × (decoded page ≡ refuses by.number by.fault)) ↔ (content_in page (decoded page) ≡ None)
     go (gives m) e = (λ t. absurd (no_refusal (sym t.1 ∙ e)), λ n. absurd (none_some n (ap (content_in page) e)))
     go (refuses number fault) e = (
       λ t. ap (content_in page) e,
-      λ n. (number, e ∙ ap {B = Answer PageMetadata} (refuses number) (no_fault page number fault e)),
+      λ n. (refused number fault, e),
     )
 
 module _ (c : ℕ) (after : List ℕ) (v : valid_capacity c ≡ true) (long : length after ≡ c) (grammar : Strict real (log_of c after)) where
   abbrev log : List (List ℕ)
   log = log_of c after
 
-  abbrev said : Answer Reason
+  abbrev said : Answer ToldReason
   said = explained c after (no_faults c)
 
   loose : Loose real log
@@ -71,7 +67,7 @@ module _ (c : ℕ) (after : List ℕ) (v : valid_capacity c ≡ true) (long : le
   within = omega (arith, first_within log, length_pages after 0 (pages_in c))
 
   -- a used page is torn exactly if it doesn't decode
-  torn_at_lem : (i : ℕ) → i < first_blank real log → Torn real (page_at real log i) ↔ ((number : ℕ) × (decoded (page_in after i) ≡ refuses number 0))
+  torn_at_lem : (i : ℕ) → i < first_blank real log → Torn real (page_at real log i) ↔ ((by : Refused) × (decoded (page_in after i) ≡ refuses by.number by.fault))
   torn_at_lem i h = (
     λ t. (undecoded (page_in after i)).1 (ap content (sym (page_at_lem after (pages_in c) i (omega (arith, within)))) ∙ t.0),
     λ t. (ap content (page_at_lem after (pages_in c) i (omega (arith, within))) ∙ (undecoded (page_in after i)).0 t, used_below real real_lawful log loose i h),
@@ -89,26 +85,26 @@ module _ (c : ℕ) (after : List ℕ) (v : valid_capacity c ≡ true) (long : le
 
   module _ (well : (number fault : ℕ) → ¬ (said ≡ refuses number fault)) where
     -- a reason is given exactly if it is the first to hold
-    exactly : (r : Reason) → said ≡ gives r ↔ (Holds (pages_in c) after (first_blank real log) r × NoneBefore (pages_in c) after (first_blank real log) r)
+    exactly : (r : ToldReason) → said ≡ gives r ↔ (Holds (pages_in c) after (first_blank real log) r × NoneBefore (pages_in c) after (first_blank real log) r)
     exactly r = first_to_hold c after (no_faults c) (first_blank real log) used well r
 
-    first_is : ((number : ℕ) × (said ≡ gives (Why.FirstTorn number))) ↔ FirstTorn real log
+    first_is : ((by : Refused) × (said ≡ gives (first_torn by))) ↔ FirstTorn real log
     first_is = (
-      λ t. let h = (exactly (Why.FirstTorn t.0)).0 t.1 in (torn_at_lem 0 h.0.0).1 (t.0, h.0.1),
+      λ t. let h = (exactly (first_torn t.0)).0 t.1 in (torn_at_lem 0 h.0.0).1 (t.0, h.0.1),
       λ t.
           let k = some_used t in
           let d = (torn_at_lem 0 k).0 t in
-          (d.0, (exactly (Why.FirstTorn d.0)).1 ((k, d.1), tt)),
+          (d.0, (exactly (first_torn d.0)).1 ((k, d.1), tt)),
     )
 
-    not_first : ((n : ℕ) → ¬ Holds (pages_in c) after (first_blank real log) (Why.FirstTorn n)) ↔ ¬ FirstTorn real log
+    not_first : ((by : Refused) → ¬ Holds (pages_in c) after (first_blank real log) (first_torn by)) ↔ ¬ FirstTorn real log
     not_first = (λ h t. let k = some_used t in let d = (torn_at_lem 0 k).0 t in h d.0 (k, d.1), λ h n k. h ((torn_at_lem 0 k.0).1 (n, k.1)))
 
-    last_is : ((pages : TornPages) × (said ≡ gives (Why.LastTorn pages))) ↔ (LastTwoTorn real log × ¬ FirstTorn real log)
+    last_is : ((pages : ToldPages) × (said ≡ gives (last_torn pages))) ↔ (LastTwoTorn real log × ¬ FirstTorn real log)
     last_is = (
       λ t.
           let i = t.0.earlier_page in
-          let h = (exactly (Why.LastTorn t.0)).0 t.1 in
+          let h = (exactly (last_torn t.0)).0 t.1 in
           let next : t.0.later_page ≡ suc i = omega (arith, h.0.0) in (
             (
               i,
@@ -123,8 +119,8 @@ module _ (c : ℕ) (after : List ℕ) (v : valid_capacity c ≡ true) (long : le
           let i = t.0.0 in
           let d = (torn_at_lem i (omega (arith, t.0.1))).0 t.0.2 in
           let e = (torn_at_lem (suc i) (omega (arith, t.0.1))).0 t.0.3 in
-          let pages : TornPages = torn_pages i d.0 (suc i) e.0 in
-          (pages, (exactly (Why.LastTorn pages)).1 ((omega arith, omega (arith, t.0.1), d.1, e.1), not_first.1 t.1)),
+          let pages : ToldPages = torn_pages i d.0 (suc i) e.0 in
+          (pages, (exactly (last_torn pages)).1 ((omega arith, omega (arith, t.0.1), d.1, e.1), not_first.1 t.1)),
     )
 
 pub explains_foreign : ExplainsForeign

@@ -4,7 +4,7 @@ use Prim.Native.Nat.{ℕ, zero, suc, ◌+◌, ◌*◌, ◌/◌, ◌≤◌}
 use mathlib.Core.Path.{◌≡◌, refl, sym, ap, ap₂, ◌∙◌}
 use mathlib.Core.Bool.{Bool, true, false, cond, false≢true}
 use mathlib.Core.List.{List, [], ◌∷◌, ◌++◌}
-use mathlib.Core.Option.{none}
+use Rattle.std.specs.Prelude.{None}
 use native.Mathlib.Omega.{arith}
 use borrow.Author.Tests.{ltb-true, ltb-false}
 use lib.ListN.{length, get_or, replicate, length-replicate}
@@ -26,10 +26,9 @@ use Rattle.queue.proofs.Laws.{holds_at_most_31, offer_appends}
 use Rattle.log_state.specs.Flush.{with_since, flushed}
 use Rattle.log_state.specs.Writer.{fresh, recovered}
 use Rattle.log_writer.specs.Pass.{begin}
-use Rattle.log_writer.specs.Calls.{drain_told, write_told, drained, after_drain, write_image, page_written, after_write}
+use Rattle.log_writer.specs.Calls.{WriteTold, drain_told, write_told, drained, after_drain, write_image, page_written, after_write}
 use Rattle.log_writer.specs.WellFormed.{OnLog}
 use Rattle.log_writer.specs.declared.Pass.{Pass}
-use Rattle.log_writer.specs.declared.WriteAnswer.{WriteAnswer}
 use Rattle.log_writer.specs.declared.DrainOrder.{DrainOrder}
 use Rattle.log_writer.specs.declared.NextProgram.{NextProgram}
 use Rattle.log_writer.proofs.Checks.{passed_log}
@@ -119,7 +118,7 @@ module _ (capacity : ℕ) (b : Bench) (image : List ℕ) (f : Fine capacity b im
   unfolding played image_after drained after_drain
   drain_goes order keep k =
       let on : OnLog capacity (length image) (length keep) = record { valid = f.valid; whole = f.whole; kept = k } in
-      let h = drain_is pages order keep (begin b.writer b.queue order.succeed) image [] none space
+      let h = drain_is pages order keep (begin b.writer b.queue order.succeed) image [] None space
       (record { sound = f.sound.writer; held = f.sound.queue }) refl in
       record {
         past = past;
@@ -135,7 +134,7 @@ module _ (capacity : ℕ) (b : Bench) (image : List ℕ) (f : Fine capacity b im
   write_goes succeed next keep k =
       let on : OnLog capacity (length image) (length keep) = record { valid = f.valid; whole = f.whole; kept = k } in
       let h = write_is pages next keep image b.writer b.queue succeed space f.sound.writer in
-      let t = Theory.write_pending real (as_pass pages next keep (begin b.writer b.queue succeed) image [] none) in
+      let t = Theory.write_pending real (as_pass pages next keep (begin b.writer b.queue succeed) image [] None) in
       record {
         past = past;
         now = now ++ t.logged;
@@ -144,7 +143,7 @@ module _ (capacity : ℕ) (b : Bench) (image : List ℕ) (f : Fine capacity b im
             ∙ ap₂ (λ (w : Model.Writer real) (queue : List FlightRecord).
             record { log = pages_of pages (write_image pages next keep b.writer succeed image); writer = w; queue = queue; past = past; now = now ++ t.logged })
             h.writer h.queue
-            ∙ ap₂ (λ (x : Answer WriteAnswer) (m : Answer (List ℕ)). device_of pages (writing (write_told b.writer b.queue x)).bench (leaves image m) past (now ++ t.logged))
+            ∙ ap₂ (λ (x : Answer WriteTold) (m : Answer (List ℕ)). device_of pages (writing (write_told b.writer b.queue x)).bench (leaves image m) past (now ++ t.logged))
             (sym (passed_log capacity (length image) (length keep) (gives _) on)) (sym (passed_log capacity (length image) (length keep) (gives _) on));
       }
 

@@ -1,7 +1,6 @@
 -- What may be concluded from the images of one board and of two: into what a log splits, where torn pages come from, in what two logs may differ. Of
 -- the bytes that rig leaves; the same laws over abstract pages are power's Segments, Torn, Boards and Offers. proofs/Boards shows each statement.
-use Rattle.std.specs.Prelude.{ℕ, suc, ◌+◌, ◌≤◌, ◌<◌, ◌≡◌, Bool, true, false, not, ◌↔◌, ◌⊎◌, List, [], ◌∷◌, ◌++◌, length}
-use Rattle.std.proofs.Math.Option.{some}
+use Rattle.std.specs.Prelude.{ℕ, suc, ◌+◌, ◌≤◌, ◌<◌, ◌≡◌, Bool, true, false, not, ◌↔◌, ◌⊎◌, List, [], ◌∷◌, ◌++◌, length, Some}
 use Rattle.power.specs.Pages.{Each}
 use Rattle.power.specs.Life.{Call, Device}
 use Rattle.power.specs.Life as Life
@@ -14,6 +13,7 @@ use Rattle.power.specs.Torn.{torn_in, AllFinished, MarkAfterTorn, unfinished_in}
 use Rattle.words.specs.Words.{same_bytes}
 use Rattle.blackbox.specs.Record.{record_bytes}
 use Rattle.blackbox.specs.declared.FlightRecord.{FlightRecord}
+use Rattle.log_state.specs.Writer.{has_pending}
 use Rattle.log_state.specs.declared.LogWriter.{LogWriter}
 use Rattle.power_pages.specs.Store.{real}
 use Rattle.script.specs.Script.{Operation, offers, drains, writes, powers, recovers, resets, flushes, operations}
@@ -56,7 +56,7 @@ NoPowerOn (flushes buffered clock ∷ os) = NoPowerOn os
 -- waits, so that a program which finishes it makes it whole
 pub record TornOnce (before after : List (List ℕ)) (w : LogWriter) : Type 0 where
   pub at_most_one : torn_in real after ≤ suc (torn_in real before)
-  pub only_waiting : w.writable ≡ true → w.has_pending ≡ false → torn_in real after ≤ torn_in real before
+  pub only_waiting : w.writable ≡ true → has_pending w ≡ false → torn_in real after ≤ torn_in real before
 
 -- AT MOST ONE TORN PAGE FROM ONE POWER-ON: a script that goes on where another ends, with a power-on and no further one
 abbrev pub OneTornPage : Type 0
@@ -70,8 +70,8 @@ OneTornPage =
 abbrev pub LeavesUnfinished : Operation → Device real → List ℕ → Type 0
 LeavesUnfinished (offers r) d left = ⊥
 LeavesUnfinished (drains order keep) d left =
-    (page : List ℕ) × (unfinished_in real (drain_of order keep) d ≡ some (page, left))
-LeavesUnfinished (writes succeed next keep) d left = (page : List ℕ) × (unfinished_in real (write_of succeed next keep) d ≡ some (page, left))
+    (page : List ℕ) × (unfinished_in real (drain_of order keep) d ≡ Some (page, left))
+LeavesUnfinished (writes succeed next keep) d left = (page : List ℕ) × (unfinished_in real (write_of succeed next keep) d ≡ Some (page, left))
 LeavesUnfinished powers d left = ⊥
 LeavesUnfinished (recovers page flight writable) d left = ⊥
 LeavesUnfinished resets d left = ⊥

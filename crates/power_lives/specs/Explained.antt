@@ -3,19 +3,17 @@ use Rattle.std.specs.Prelude.{ℕ, ◌≡◌, ◌↔◌, List}
 use Rattle.laws.specs.Answers.{Answer, gives}
 use Rattle.power.specs.Claims.{FirstTorn, LastTwoTorn}
 use Rattle.store.specs.Store.{no_faults}
-use Rattle.records.specs.Explain.{explained}
-use Rattle.records.specs.declared.Reason.{Reason}
-use Rattle.records.specs.declared.Reason.TheVariants as Why
-use Rattle.records.specs.declared.TornPages.{TornPages}
+use Rattle.records.specs.Pages.{Refused}
+use Rattle.records.specs.Explain.{ToldPages, ToldReason, first_torn, last_torn, explained}
 use Rattle.power_pages.specs.Store.{real}
 use Rattle.rig.specs.Rig.{after_play}
 use Rattle.power_lives.specs.Theorem.{Plays, log_of, Erased, Assumed}
 
 -- the two cases of a foreign log, each with the reason that explain gives for it; where both hold, page 0 is the reason
-module _ (log : List (List ℕ)) (said : Answer Reason) where
+module _ (log : List (List ℕ)) (said : Answer ToldReason) where
   pub record ForeignExplained : Type 0 where
-    pub first : ((number : ℕ) × (said ≡ gives (Why.FirstTorn number))) ↔ FirstTorn real log
-    pub last : ((pages : TornPages) × (said ≡ gives (Why.LastTorn pages))) ↔ (LastTwoTorn real log × ¬ FirstTorn real log)
+    pub first : ((by : Refused) × (said ≡ gives (first_torn by))) ↔ FirstTorn real log
+    pub last : ((pages : ToldPages) × (said ≡ gives (last_torn pages))) ↔ (LastTwoTorn real log × ¬ FirstTorn real log)
 
 -- THE FIRST TWO REASONS ARE THE TWO CASES IN WHICH A LOG IS FOREIGN, for every script of a life
 abbrev pub ExplainsForeign : Type 0

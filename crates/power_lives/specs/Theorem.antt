@@ -3,8 +3,7 @@
 -- and records' `scanned`). proofs/Theorem and proofs/Ghost show each statement here.
 -- "Power comes on any number of times, each with a fresh writer set by one scan alone; reads have no faults, nothing is erased, and only the
 -- writer programs the log. Programs may fail, and power may go at any moment, leaving any bits of a page unprogrammed."
-use Rattle.std.specs.Prelude.{ℕ, ◌*◌, ◌≤◌, ◌≡◌, Bool, true, false, ◌⊎◌, List, [], ◌∷◌, ◌++◌, length}
-use Rattle.std.proofs.Math.Option.{Option}
+use Rattle.std.specs.Prelude.{ℕ, ◌*◌, ◌≤◌, ◌≡◌, Bool, true, false, ◌⊎◌, List, [], ◌∷◌, ◌++◌, length, Option}
 use Rattle.laws.specs.Answers.{gives}
 use Rattle.power.specs.Pages.{most_lost}
 use Rattle.power.specs.Claims.{Kept, OnlyAdds, ForeignLog, ScanSays, SearchFinds, OneEdition}
@@ -164,7 +163,7 @@ abbrev pub LoggedBy : Operation → Bench → Bench → List (List (ℕ × Fligh
 LoggedBy (offers r) before after was is = is ≡ was
 LoggedBy (drains order keep) before after was is =
     (before.writer.writable ≡ true → DrainLogged order.record_while_disarmed before after was is) × (before.writer.writable ≡ false → is ≡ was)
-LoggedBy (writes succeed next keep) before after was is = is ≡ was
+LoggedBy (writes succeed _ keep) before after was is = is ≡ was
 LoggedBy powers before after was is = is ≡ was ++ [] ∷ []
 LoggedBy (recovers page flight writable) before after was is = is ≡ was
 LoggedBy resets before after was is = is ≡ was

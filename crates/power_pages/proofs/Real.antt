@@ -4,7 +4,7 @@ use mathlib.Core.Path.{◌≡◌, refl, sym, ap, ◌∙◌}
 use mathlib.Core.Bool.{true}
 use mathlib.Core.Logic.{◌↔◌}
 use mathlib.Core.List.{List, [], ◌∷◌}
-use mathlib.Core.Option.{none, some}
+use Rattle.std.specs.Prelude.{None, Some}
 use native.Mathlib.Omega.{arith}
 use borrow.Author.Tests.{eq-eqb}
 use lib.Bits.{or_lt, or_add_and, and_high}
@@ -53,12 +53,12 @@ each_fit (r ∷ rows) h = (h.0.0, each_fit rows h.1)
 pub same_blank : (page : List ℕ) → (same_bytes page blank_page ≡ true) ↔ (page ≡ blank_page)
 same_blank page = (same_equal page blank_page, λ e. rw e (same_refl blank_page))
 
-pub content_blank : content blank_page ≡ none
+pub content_blank : content blank_page ≡ None
 unfolding content decoded decoded_as same_bytes
 content_blank = refl
 
 pub content_encoded : (f s : ℕ) (rows : List FlightRecord) → f < 2 ^ 32 - 1 → s < 2 ^ 32 - 1 → Rows rows
-    → content (encoded_page f s rows) ≡ some (record { flight = f; sequence = s; rows = rows })
+    → content (encoded_page f s rows) ≡ Some (record { flight = f; sequence = s; rows = rows })
 unfolding content
 content_encoded f s rows hf hs h =
     let back = records_read_back f s rows (omega arith) (omega arith) (each_fit rows h.each) (omega (arith, h.few)) in

@@ -4,7 +4,7 @@ use Prim.Native.Nat.{ℕ, zero, suc, ◌+◌, ◌-◌, ◌/◌, ◌≤◌, ◌<�
 use mathlib.Core.Path.{◌≡◌, refl, sym, ap, ap₂, ◌∙◌}
 use mathlib.Core.Bool.{Bool, true, false, false≢true}
 use mathlib.Core.List.{List}
-use mathlib.Core.Option.{Option, none, some}
+use Rattle.std.specs.Prelude.{Option, None, Some}
 use native.Mathlib.Nat.{add-zero, add-suc, suc-add}
 use native.Mathlib.Omega.{arith}
 use borrow.Author.Tests.{ne_eqb}
@@ -68,18 +68,18 @@ told_blank p l = go (all_blank p) (same_bytes p blank_page) refl refl
 
 -- a flight as the theory has it
 abbrev pub as_flight : Option PageFlight → Option ℕ
-as_flight none = none
-as_flight (some f) = some f.flight_id
+as_flight None = None
+as_flight (Some f) = Some f.flight_id
 
 -- the verdict where page 0 says a flight
 abbrev chosen : Option PageFlight → Declared.Scan → Declared.Scan
-chosen none s = Scan.foreign_scan
-chosen (some f) s = s
+chosen None s = Scan.foreign_scan
+chosen (Some f) s = s
 
 -- a page's own flight, else another
 abbrev or_own : Option PageFlight → Option PageFlight → Option PageFlight
-or_own none other = other
-or_own (some f) other = some f
+or_own None other = other
+or_own (Some f) other = Some f
 
 -- what the pages of an image say of their flights
 abbrev pub own_in : List ℕ → ℕ → Option PageFlight
@@ -100,8 +100,8 @@ module _ (image : List ℕ) (n : ℕ) where
       ap as_flight (flight_said (page_in image i)) ∙ same_flight (page_in image i) (decoded (page_in image i)) ∙ ap (λ (p : List ℕ). Theory-scan.flight_of real (content p)) (sym (page_at_lem image n i h))
 
   or_says : (a b : Option PageFlight) → as_flight (or_own a b) ≡ Theory-scan.or_else real (as_flight a) (as_flight b)
-  or_says none b = refl
-  or_says (some f) b = refl
+  or_says None b = refl
+  or_says (Some f) b = refl
 
   pub flight_says : (i : ℕ) → i < n → as_flight (flight_in_log image i) ≡ Theory-scan.page_flight real (pages_of n image) i
   flight_says zero h = own_says zero h
@@ -110,13 +110,13 @@ module _ (image : List ℕ) (n : ℕ) where
       ∙ ap₂ (Theory-scan.or_else real) (own_says (suc i) h) (own_says i (omega arith))
 
 module _ (image faults : List ℕ) (clear : NoFaults faults) where
-  first_is : (o : Option PageFlight) → or_else o (gives none) ≡ gives o
-  first_is none = refl
-  first_is (some f) = refl
+  first_is : (o : Option PageFlight) → or_else o (gives None) ≡ gives o
+  first_is None = refl
+  first_is (Some f) = refl
 
   next_is : (a b : Option PageFlight) → or_else a (gives b) ≡ gives (or_own a b)
-  next_is none b = refl
-  next_is (some f) b = refl
+  next_is None b = refl
+  next_is (Some f) b = refl
 
   pub flight_is : (i : ℕ) → page_flight image faults i ≡ gives (flight_in_log image i)
   unfolding page_flight
@@ -139,16 +139,16 @@ module _ (image faults : List ℕ) (clear : NoFaults faults) where
 
     -- the verdict, from what the first and the last used page say
     appending_is : (used : ℕ) (o : Option PageFlight) → as_scan (Theory-scan.appending real (pages_of n image) used (as_flight o)) ≡ Scan.appending n used o
-    appending_is used none = refl
-    appending_is used (some f) = ap (λ (k : ℕ). Scan.scan used (next_flight f.flight_id) (ltb used k)) (length_pages image 0 n)
+    appending_is used None = refl
+    appending_is used (Some f) = ap (λ (k : ℕ). Scan.scan used (next_flight f.flight_id) (ltb used k)) (length_pages image 0 n)
 
     begun_is : (o : Option PageFlight) (s : Theory.ScanAnswer) → as_scan (Theory-scan.if_begun real (as_flight o) s) ≡ chosen o (as_scan s)
-    begun_is none s = refl
-    begun_is (some f) s = refl
+    begun_is None s = refl
+    begun_is (Some f) s = refl
 
     chosen_is : (o : Option PageFlight) (s : Declared.Scan) → Scan.if_begun o (gives s) ≡ gives (chosen o s)
-    chosen_is none s = refl
-    chosen_is (some f) s = refl
+    chosen_is None s = refl
+    chosen_is (Some f) s = refl
 
     verdict_is : (used : ℕ) → used ≤ n → Scan.verdict n image faults used ≡ gives (as_scan (Theory-scan.verdict real (pages_of n image) used))
     unfolding Scan.verdict

@@ -4,7 +4,7 @@ use Prim.Native.Nat.{ℕ, suc, ◌/◌, ◌≤◌, ◌<◌}
 use mathlib.Core.Path.{◌≡◌, refl, sym, ap, ◌∙◌}
 use mathlib.Core.Bool.{Bool, true, false}
 use mathlib.Core.List.{List}
-use mathlib.Core.Option.{Option, none, some}
+use Rattle.std.specs.Prelude.{Option, None, Some}
 use native.Mathlib.Decide.{dec_lt}
 use native.Mathlib.Numerals.{add-one}
 use native.Mathlib.Omega.{arith}
@@ -24,9 +24,9 @@ use Rattle.power_pages.specs.Store.{real, pages_of, as_found}
 use Rattle.records.proofs.Readings.{NoFaults}
 use Rattle.power_pages.proofs.Scan.{as_flight, flight_in_log, flight_says, flight_is}
 
-one_flight : (o : Option PageFlight) (g : ℕ) → as_flight o ≡ some g → or_corrupt o ≡ gives g
-one_flight none g e = absurd (let z : ◌≡◌ {A = ℕ} 0 1 = cc in omega arith)
-one_flight (some f) g e = let z : f.flight_id ≡ g = cc in ap {B = Answer ℕ} gives z
+one_flight : (o : Option PageFlight) (g : ℕ) → as_flight o ≡ Some g → or_corrupt o ≡ gives g
+one_flight None g e = absurd (let z : ◌≡◌ {A = ℕ} 0 1 = cc in omega arith)
+one_flight (Some f) g e = let z : f.flight_id ≡ g = cc in ap {B = Answer ℕ} gives z
 
 module _ (image faults : List ℕ) (clear : NoFaults faults) (n used : ℕ) (l : used ≤ n) (each : Theory-scan.FlightsKnown real (pages_of n image) used) where
   abbrev log : List (List ℕ)

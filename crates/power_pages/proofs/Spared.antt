@@ -1,7 +1,7 @@
 -- A 0 bit of "FB" that is not programmed is a scar of the 256-byte page. Assumes nothing.
 use Prim.Native.Nat.{ℕ, zero, suc, ◌+◌, ◌<◌, ◌^◌}
 use mathlib.Core.Path.{◌≡◌, refl, sym, ap, ◌∙◌}
-use mathlib.Core.Option.{none}
+use Rattle.std.specs.Prelude.{None}
 use mathlib.Core.List.{List, [], ◌∷◌}
 use native.Mathlib.Nat.{one-mul}
 use native.Mathlib.Omega.{arith}
@@ -56,11 +56,11 @@ module _ (b : MagicBit) where
           sym (get_or-drop 240 page b.byte 0) ∙ sym (get_or-take 2 (drop 240 page) b.byte 0 b.in_magic)
           ∙ ap (λ (l : List ℕ). get_or l b.byte 0) (same_equal (take 2 (drop 240 page)) magic (whole 1 5 page m e).marked)
 
-  unprogrammed_undecoded : (page : List ℕ) → Unprogrammed b page → content page ≡ none
+  unprogrammed_undecoded : (page : List ℕ) → Unprogrammed b page → content page ≡ None
   unfolding content decoded
   unprogrammed_undecoded page h = go (decoded_as 1 5 page) refl
     where
-      go : (a : Answer PageMetadata) → decoded_as 1 5 page ≡ a → content_in page a ≡ none
+      go : (a : Answer PageMetadata) → decoded_as 1 5 page ≡ a → content_in page a ≡ None
       go (gives m) e = absurd (unprogrammed_refused page m h e)
       go (refuses n x) e = refl
 

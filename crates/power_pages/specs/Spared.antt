@@ -1,7 +1,6 @@
 -- When an unfinished program surely leaves a page that doesn't decode: "at 240 "FB"", so a 0 bit of those two bytes that is left unprogrammed is a
 -- scar, whatever the checksum would say. proofs/Spared shows each statement here.
-use Rattle.std.specs.Prelude.{ℕ, ◌+◌, ◌<◌, ◌≡◌, List, get_or}
-use Rattle.std.proofs.Math.Option.{none}
+use Rattle.std.specs.Prelude.{ℕ, ◌+◌, ◌<◌, ◌≡◌, List, get_or, None}
 use Rattle.laws.specs.Bits.{bit}
 use Rattle.power.specs.Spared.{Scarring}
 use Rattle.store.specs.Store.{programmed_bytes}
@@ -22,7 +21,7 @@ Unprogrammed b bytes = bit b.place (get_or bytes (240 + b.byte) 0) ≡ 1
 
 -- A PROGRAM OF A BLANK PAGE THAT LEAVES A 0 BIT OF "FB" UNPROGRAMMED LEAVES A PAGE THAT DOESN'T DECODE, whatever is programmed
 abbrev pub SparedMagic : Type 0
-SparedMagic = (b : MagicBit) (target keep : List ℕ) → Unprogrammed b keep → content (programmed_bytes blank_page target keep) ≡ none
+SparedMagic = (b : MagicBit) (target keep : List ℕ) → Unprogrammed b keep → content (programmed_bytes blank_page target keep) ≡ None
 
 -- and so do any number of programs that leave that bit: it is a scar
 abbrev pub MagicScars : Type 0

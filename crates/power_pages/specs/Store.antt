@@ -1,8 +1,7 @@
 -- The page of 256 bytes as a page store of the theory of demand 3: what "five", "decodes" and "programmed" mean there, all by the codec's and the
 -- store's own definitions; and the answers of scan and search as the code has them. That it meets the laws of a page store is proofs/Real.
 -- Document 01, "Bytes on flash" and "Writer and store".
-use Rattle.std.specs.Prelude.{ℕ, zero, suc, ◌+◌, ◌-◌, ◌%◌, ◌^◌, Bool, true, List, [], ◌∷◌, eqb}
-use Rattle.std.proofs.Math.Option.{Option, none, some}
+use Rattle.std.specs.Prelude.{ℕ, zero, suc, ◌+◌, ◌-◌, ◌%◌, ◌^◌, Bool, true, List, [], ◌∷◌, eqb, Option, None, Some}
 use Rattle.laws.specs.Answers.{Answer, gives, refuses}
 use Rattle.laws.specs.Bits.{bit}
 use Rattle.power.specs.Pages.{Decoded, PageStore}
@@ -23,8 +22,8 @@ use Rattle.log_search.specs.declared.StoredFlight.{StoredFlight}
 -- what a page says: its flight, its sequence and as many records as it counts
 abbrev pub content_in : List ℕ → Answer PageMetadata → Option (Decoded FlightRecord)
 content_in page (gives m) =
-    some (record { flight = m.flight_id; sequence = m.page_sequence; rows = records_in m.record_count page })
-content_in page (refuses number fault) = none
+    Some (record { flight = m.flight_id; sequence = m.page_sequence; rows = records_in m.record_count page })
+content_in page (refuses number fault) = None
 
 -- what a page says, if it decodes
 unfoldable pub content : List ℕ → Option (Decoded FlightRecord)
@@ -73,5 +72,5 @@ as_scan s = Scan.scan s.page s.flight s.writable
 
 -- a span as the code has it
 abbrev pub as_found : ℕ → Option Span → Option StoredFlight
-as_found flight none = none
-as_found flight (some span) = some (record { flight_id = flight; start_page = span.start; pages = span.pages })
+as_found flight None = None
+as_found flight (Some span) = Some (record { flight_id = flight; start_page = span.start; pages = span.pages })

@@ -3,7 +3,7 @@ use Prim.Native.Nat.{ℕ, zero, suc, ◌+◌, ◌*◌, ◌≤◌}
 use mathlib.Core.Path.{◌≡◌, refl, sym, ap, ap₂, ◌∙◌}
 use mathlib.Core.Bool.{Bool, true, false, cond}
 use mathlib.Core.List.{List}
-use mathlib.Core.Option.{Option}
+use Rattle.std.specs.Prelude.{Option}
 use native.Mathlib.Omega.{arith}
 use borrow.Author.Tests.{eq-eqb, ne_eqb}
 use lib.Dec.{eqb}
@@ -44,11 +44,11 @@ module _ (pages : ℕ) (order : DrainOrder) (keep : List ℕ) where
       → Ends pages order.next keep (Theory.turns real order.record_while_disarmed n (as_pass pages order.next keep p image l u)) (turns pages order n p)
       (turns_image pages order keep n p image)
 
-  turns_is : (n : ℕ) (p : Pass) (image : List ℕ) → log_start + pages * 256 ≤ length image → SoundPass p → p.going ≡ true → Reaches n p image
+  turns_is : (n : ℕ) (p : Pass) (image : List ℕ) → log_start + pages * 256 ≤ length image → SoundPass p → p.progress.going ≡ true → Reaches n p image
   unfolding turns turns_image
   turns_is zero p image space s on l u = record { logged = l; unfinished = u; same = refl }
   turns_is (suc n) p image space s on l u =
-      go (turn_is pages order keep p image l u space s on) q.going refl
+      go (turn_is pages order keep p image l u space s on) q.progress.going refl
       (λ live. turns_is n q after (omega (arith, (turn_only pages order keep p image s space).long)) (turn_sound pages order p s) live)
     where
       q : Pass
@@ -75,7 +75,7 @@ module _ (pages : ℕ) (order : DrainOrder) (keep : List ℕ) where
                 (sym (another pages order keep n p on)) (sym (another_image pages order keep n p image on));
           }
 
-      go : (t : Is pages order.next keep (Theory.turn real order.record_while_disarmed tp) q after) (z : Bool) → q.going ≡ z → (q.going ≡ true → Reaches n q after)
+      go : (t : Is pages order.next keep (Theory.turn real order.record_while_disarmed tp) q after) (z : Bool) → q.progress.going ≡ z → (q.progress.going ≡ true → Reaches n q after)
           → Ends pages order.next keep (onwards (Theory.turn real order.record_while_disarmed tp)) (turns pages order (suc n) p)
           (turns_image pages order keep (suc n) p image)
       go t true e rest =
@@ -97,7 +97,7 @@ module _ (pages : ℕ) (order : DrainOrder) (keep : List ℕ) where
 
   module _ (p : Pass) (image : List ℕ) (l : List (ℕ × FlightRecord)) (u : Option (List ℕ × List ℕ)) where
     abbrev viewed : Model.Writer real → List FlightRecord → Theory.Pass real
-    viewed w queue = viewed_as (pages_of pages image) w queue p.succeed (as_next order.next keep) p.pages_written l u p.cut
+    viewed w queue = viewed_as (pages_of pages image) w queue p.progress.succeed (as_next order.next keep) p.progress.report.pages_written l u p.progress.cut
 
     abbrev view : Theory.Pass real
     view = as_pass pages order.next keep p image l u
@@ -149,7 +149,7 @@ module _ (pages : ℕ) (order : DrainOrder) (keep : List ℕ) where
     abbrev theirs : Theory.Pass real
     theirs = Theory.drain real (as_order order keep) view
 
-    module _ (space : log_start + pages * 256 ≤ length image) (s : SoundPass p) (on : p.going ≡ true) where
+    module _ (space : log_start + pages * 256 ≤ length image) (s : SoundPass p) (on : p.progress.going ≡ true) where
       writable_is : (n : ℕ) → p.queue.held ≡ n
           → Ends pages order.next keep (Theory.drain_writable real (as_order order keep) (as_queue p.queue) view)
           (cond (eqb p.queue.held 0) (on_empty_queue order p) (turns pages order order.limit p))

@@ -8,6 +8,7 @@ use borrow.Author.Tests.{ne_eqb}
 use lib.Dec.{eqb, ltb}
 use lib.ListN.{length, take, length-append}
 use lib.Seq.{length-take-le}
+use Rattle.std.specs.Prelude.{Option, None, Some}
 use Rattle.laws.proofs.Choice.{cond_true, cond_false}
 use Rattle.power.specs.Pages.{full}
 use Rattle.power.specs.Writer as Model
@@ -17,13 +18,13 @@ use Rattle.blackbox.specs.Flight.{next_flight}
 use Rattle.queue.specs.Queue.{oldest, without_oldest}
 use Rattle.queue.specs.declared.RecordQueue.{RecordQueue}
 use Rattle.queue.proofs.Laws.{held_first}
-use Rattle.assembler.specs.Assembler.{page_assembler, started, answered, finished, marked, laid, pushed, unrecorded, stopped, without_ready, taken}
+use Rattle.assembler.specs.Assembler.{page_assembler, page_ready, started, answered, finished, marked, laid, pushed, unrecorded, stopped, without_ready, taken}
 use Rattle.assembler.specs.Laws.{used_rows, page_of_rows}
 use Rattle.assembler.specs.WellFormed.{SoundAssembler}
 use Rattle.assembler.specs.declared.PageAssembler.{PageAssembler}
-use Rattle.assembler.specs.declared.AssembleAnswer.{AssembleAnswer}
+use Rattle.assembler.specs.declared.Assembled.{Assembled}
 use Rattle.assembler.proofs.Laws.{push_taken, push_appends, stop_taken, start_keeps}
-use Rattle.log_state.specs.Writer.{log_writer, with_assembler, fetched, fetched_if_writable, begun, beginning, added, ended, logging}
+use Rattle.log_state.specs.Writer.{log_writer, has_pending, with_assembler, fetched, fetched_if_writable, begun, beginning, added, ended, logging}
 use Rattle.log_state.specs.WellFormed.{SoundWriter}
 use Rattle.log_state.specs.declared.LogWriter.{LogWriter}
 use Rattle.log_state.specs.declared.Logged.{Logged}
@@ -42,20 +43,20 @@ one_held q n e = search held_first
 
 -- ---- a page is fetched
 
-fetched_at : (has ready : Bool) (rows : List FlightRecord) (count flight sequence : ℕ) (recording mark : Bool) (page pending : List ℕ)
-    (next_page next_flight : ℕ) (writable boot : Bool) (since : ℕ) (has_since : Bool)
-    → as_writer (fetched (log_writer (page_assembler rows count flight sequence recording mark page ready) pending has next_page next_flight writable boot since has_since))
-    ≡ Theory.fetched real (as_writer (log_writer (page_assembler rows count flight sequence recording mark page ready) pending has next_page next_flight writable boot since has_since))
+fetched_at : (ready pending : Option (List ℕ)) (rows : List FlightRecord) (count flight sequence : ℕ) (recording mark : Bool)
+    (next_page next_flight : ℕ) (writable boot : Bool) (since : Option ℕ)
+    → as_writer (fetched (log_writer (page_assembler rows count flight sequence recording mark ready) pending next_page next_flight writable boot since))
+    ≡ Theory.fetched real (as_writer (log_writer (page_assembler rows count flight sequence recording mark ready) pending next_page next_flight writable boot since))
 unfolding fetched taken without_ready
-fetched_at true ready rows count flight sequence recording mark page pending next_page next_flight writable boot since has_since = refl
-fetched_at false true rows count flight sequence recording mark page pending next_page next_flight writable boot since has_since = refl
-fetched_at false false rows count flight sequence recording mark page pending next_page next_flight writable boot since has_since = refl
+fetched_at ready (Some page) rows count flight sequence recording mark next_page next_flight writable boot since = refl
+fetched_at (Some page) None rows count flight sequence recording mark next_page next_flight writable boot since = refl
+fetched_at None None rows count flight sequence recording mark next_page next_flight writable boot since = refl
 
 pub fetched_is : (w : LogWriter) → as_writer (fetched w) ≡ Theory.fetched real (as_writer w)
 fetched_is w =
-    fetched_at w.has_pending w.assembler.page_ready w.assembler.records w.assembler.record_count w.assembler.flight_id
-    w.assembler.page_sequence w.assembler.recording w.assembler.boot_session_start_pending w.assembler.ready_page
-    w.pending w.next_page w.next_flight w.writable w.boot_session_start w.write_back_since_ms w.has_write_back_since
+    fetched_at w.assembler.ready_page w.pending w.assembler.records w.assembler.record_count w.assembler.flight_id
+    w.assembler.page_sequence w.assembler.recording w.assembler.boot_session_start_pending
+    w.next_page w.next_flight w.writable w.boot_session_start w.write_back_since_ms
 
 pub fetched_if_is : (w : LogWriter) → as_writer (fetched_if_writable w) ≡ Theory.fetched_if_writable real (as_writer w)
 unfolding fetched_if_writable
@@ -85,7 +86,7 @@ stored_is false r = refl
 finished_is : (a : PageAssembler) → as_assembler (finished a (page_of_rows a)) ≡ Model.finished real (as_assembler a)
 finished_is a = refl
 
-module _ (a : PageAssembler) (r : FlightRecord) (s : SoundAssembler a) (on : a.recording ≡ true) (free : a.page_ready ≡ false) where
+module _ (a : PageAssembler) (r : FlightRecord) (s : SoundAssembler a) (on : a.recording ≡ true) (free : page_ready a ≡ false) where
   -- the record with its mark
   m : FlightRecord
   m = marked a.boot_session_start_pending r
@@ -102,7 +103,7 @@ module _ (a : PageAssembler) (r : FlightRecord) (s : SoundAssembler a) (on : a.r
   pub pushed_is : as_assembler (pushed a r).assembler ≡ Model.pushed real (Model.stored real (as_assembler a) r) (as_assembler a)
   unfolding m
   pushed_is =
-      ap (λ (x : AssembleAnswer). as_assembler x.assembler) (push_taken a r s on free)
+      ap (λ (x : Assembled). as_assembler x.assembler) (push_taken a r s on free)
       ∙ filled_is (ltb (a.record_count + 1) 5) refl
       ∙ ap (λ (z : Bool). cond z (Model.finished real (Model.laid real m (as_assembler a))) (Model.laid real m (as_assembler a))) (sym full_is)
       ∙ ap (λ (x : FlightRecord). Model.pushed real x (as_assembler a)) (stored_is a.boot_session_start_pending r)
@@ -117,13 +118,13 @@ stopping_is (suc n) (r ∷ rows) b l h = rw (ne_eqb (suc n) 0 (λ e. omega arith
 pub stopped_is : (a : PageAssembler) → SoundAssembler a → as_assembler (stopped a).assembler ≡ Model.stopped real (as_assembler a)
 unfolding unrecorded
 stopped_is a s =
-    ap (λ (x : AssembleAnswer). as_assembler x.assembler) (stop_taken a s)
+    ap (λ (x : Assembled). as_assembler x.assembler) (stop_taken a s)
     ∙ go (eqb a.record_count 0)
     ∙ sym (stopping_is a.record_count a.records (as_assembler (unrecorded a)) s.few s.five)
     ∙ last
   where
     go : (z : Bool)
-        → as_assembler (cond z (answered a.page_ready (unrecorded a)) (answered true (finished (unrecorded a) (page_of_rows a)))).assembler
+        → as_assembler (cond z (answered (page_ready a) (unrecorded a)) (answered true (finished (unrecorded a) (page_of_rows a)))).assembler
         ≡ cond z (as_assembler (unrecorded a)) (Model.finished real (as_assembler (unrecorded a)))
     go true = refl
     go false = refl
@@ -134,13 +135,13 @@ stopped_is a s =
 -- what one record does to the writer: no page is ready when it is taken
 module _ (r : FlightRecord) where
   -- to a writer that records a flight
-  adding : (w : LogWriter) → SoundWriter w → w.assembler.recording ≡ true → w.assembler.page_ready ≡ false
+  adding : (w : LogWriter) → SoundWriter w → w.assembler.recording ≡ true → page_ready w.assembler ≡ false
       → as_writer (with_assembler w (pushed w.assembler r).assembler) ≡ Model.added real r (as_writer w)
   unfolding with_assembler
   adding w s on free =
       ap (λ (a : Model.Assembler real). Model.with_assembler real a (as_writer w)) (pushed_is w.assembler r s.rows on free)
 
-  started_sound : (w : LogWriter) → SoundWriter w → w.has_pending ≡ false → SoundWriter (beginning w)
+  started_sound : (w : LogWriter) → SoundWriter w → has_pending w ≡ false → SoundWriter (beginning w)
   started_sound w s empty =
       record {
         rows = start_keeps w.assembler w.next_flight w.boot_session_start s.rows;
@@ -152,7 +153,7 @@ module _ (r : FlightRecord) where
   unfolding started
   begun_is w = refl
 
-  module _ (w : LogWriter) (s : SoundWriter w) (empty : w.has_pending ≡ false) (free : w.assembler.page_ready ≡ false) where
+  module _ (w : LogWriter) (s : SoundWriter w) (empty : has_pending w ≡ false) (free : page_ready w.assembler ≡ false) where
     added_to : (v : LogWriter) → begun w ≡ v → as_writer (added w r).writer ≡ as_writer (with_assembler v (pushed v.assembler r).assembler)
     unfolding added
     added_to v e = ap (λ (x : LogWriter). as_writer (with_assembler x (pushed x.assembler r).assembler)) e

@@ -1,7 +1,6 @@
--- How the code's states stand in the theory of demand 3: the rows that are used, a page where its flag says so, the queue as a list, the
--- image as the pages of its log.
-use Rattle.std.specs.Prelude.{ℕ, Bool, true, false, List}
-use Rattle.std.proofs.Math.Option.{Option, none, some}
+-- How the code's states stand in the theory of demand 3: the rows that are used, the queue as a list, the image as the pages of its
+-- log.
+use Rattle.std.specs.Prelude.{ℕ, List, Option}
 use Rattle.power.specs.Writer as Model
 use Rattle.power.specs.Calls as Theory
 use Rattle.blackbox.specs.declared.FlightRecord.{FlightRecord}
@@ -16,11 +15,6 @@ use Rattle.log_writer.specs.declared.NextProgram.{NextProgram}
 use Rattle.log_writer.specs.declared.NextProgram.TheVariants.{Busy, Fault, Cut}
 use Rattle.power_pages.specs.Store.{real, pages_of}
 
--- a value and its flag
-abbrev pub if_there : {A : Type 0} → Bool → A → Option A
-if_there true a = some a
-if_there false a = none
-
 abbrev pub as_assembler : PageAssembler → Model.Assembler real
 as_assembler a =
     record {
@@ -30,7 +24,7 @@ as_assembler a =
       recording = a.recording;
       mark_pending = a.boot_session_start_pending;
       edition = tt;
-      ready = if_there a.page_ready a.ready_page;
+      ready = a.ready_page;
     }
 
 -- the start time of the write-back buffer is no part of the theory
@@ -38,7 +32,7 @@ abbrev pub as_writer : LogWriter → Model.Writer real
 as_writer w =
     record {
       assembler = as_assembler w.assembler;
-      waiting = if_there w.has_pending w.pending;
+      waiting = w.pending;
       next_page = w.next_page;
       next_flight = w.next_flight;
       writable = w.writable;
@@ -66,10 +60,10 @@ as_pass pages next keep p image logged unfinished =
       log = pages_of pages image;
       writer = as_writer p.writer;
       queue = as_queue p.queue;
-      succeed = p.succeed;
+      succeed = p.progress.succeed;
       next = as_next next keep;
-      pages_written = p.pages_written;
+      pages_written = p.progress.report.pages_written;
       logged = logged;
       unfinished = unfinished;
-      power_gone = p.cut;
+      power_gone = p.progress.cut;
     }

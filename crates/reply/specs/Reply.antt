@@ -1,7 +1,6 @@
 -- How a C call answers. Document 01, "Port order and changes of shape": "exported calls take numbers and byte slices only". An answer
 -- is told as one number and a row of bytes.
-use Rattle.std.specs.Prelude.{ℕ, ◌+◌, ◌*◌, Bool, true, false, cond, not, List, [], ◌∷◌, eqb, length}
-use Rattle.std.proofs.Math.Option.{Option, none, some}
+use Rattle.std.specs.Prelude.{ℕ, ◌+◌, ◌*◌, Bool, true, false, cond, not, Option, None, Some, List, [], ◌∷◌, eqb, length}
 use Rattle.laws.specs.Refusals.{invalid_layout, bad_length}
 use Rattle.laws.specs.Answers.{Answer, gives, refuses, must}
 use Rattle.store.specs.Store.{leaves}
@@ -30,10 +29,6 @@ row_reply wanted old answer = reply_of (rowed wanted (length old) answer)
 abbrev pub row_after : ℕ → List ℕ → Answer (List ℕ) → List ℕ
 row_after wanted old answer = leaves old (rowed wanted (length old) answer)
 
--- an answer that is held as a refusal's number beside the value, 0 where nothing is refused
-abbrev pub held_as : {A : Type 0} → ℕ → A → Answer A
-held_as number value = cond (eqb number 0) (gives value) (refuses number 0)
-
 -- a flag that is handed in: C may pass any byte, and every byte but 0 is true
 abbrev pub is_set : ℕ → Bool
 is_set flag = not (eqb flag 0)
@@ -52,5 +47,5 @@ abbrev pub some_row : ℕ → List ℕ
 some_row n = 1 ∷ le_bytes 4 n
 
 abbrev pub option_row : Option ℕ → List ℕ
-option_row none = 0 ∷ 0 ∷ 0 ∷ 0 ∷ 0 ∷ []
-option_row (some n) = some_row n
+option_row None = 0 ∷ 0 ∷ 0 ∷ 0 ∷ 0 ∷ []
+option_row (Some n) = some_row n

@@ -1,1 +1,1 @@
-pub mod ScriptWays
+pub mod Turns

@@ -1,84 +1,65 @@
 // The assembler's calls as a C call gives them: a script of rows of 54 bytes, played from a fresh assembler, and what its last call
 // answers. A caller can rely on it that a refused call leaves the assembler as the Rust does, and that the next is played.
-#![tactic(auto)]
+#![tactic(auto, unfolding(crate::specs::Script::told_row, crate::specs::Script::play_row, crate::specs::Script::last_played, blackbox::specs::Record::record_decoded, words::specs::Words::le_bytes))]
 
-ghost use Rattle.std.specs.Prelude.{◌≡◌, ◌+◌, ◌≤◌, ◌∷◌, length, take, drop};
-ghost use Rattle.words.specs.Words.{le_bytes};
-ghost use Rattle.blackbox.specs.Record.{record_of};
-ghost use Rattle.assembler.specs.Assembler.{told_unfinished};
+ghost use Rattle.std.specs.Prelude.{◌≡◌, ◌+◌, ◌≤◌, length};
+ghost use Rattle.laws.specs.Answers.{told};
 ghost use Rattle.assembler.specs.WellFormed.{SoundAssembler};
-ghost use Rattle.reply.specs.Reply.{row_reply, row_after, laid, flag_of};
-ghost use Rattle.reply_assembler.specs.Script.{flagged, assembled, took, found_unfinished, play_row, play_script, played_row, told_played, last_played};
+ghost use Rattle.reply_assembler.specs.Script.{flagged, assembled, took, found_unfinished, play_row, play_script, played_row, last_played};
 
-use assembler::{AssembleAnswer, PageAssembler, ReadyPage, UnfinishedFlight};
+use assembler::{Assembled, PageAssembler, ReadyPage};
 use blackbox::FlightRecord;
+use laws::Refusal;
+
+// What a call of a script gives: a flag, the unfinished flight or the ready page.
+#[derive(Clone, Copy)]
+pub enum Told {
+    Flag(bool),
+    Unfinished(Option<u32>),
+    Page(Option<[u8; 256]>),
+}
 
 // What a call of a script answers, and the assembler as it leaves it.
 #[derive(Clone, Copy)]
 pub struct Played {
-    pub refused: u8,
-    pub flag: bool,
-    pub flight: u32,
-    pub page: [u8; 256],
+    pub answer: Result<Told, Refusal>,
     pub assembler: PageAssembler,
 }
 
-fn flag_alone(number: u8, flag: bool, assembler: PageAssembler) -> Played
-    ensures { result ≡ flagged number flag assembler }
+fn flagged(flag: bool, assembler: PageAssembler) -> Played
+    ensures { result ≡ flagged flag assembler }
 {
     Played {
-        refused: number,
-        flag,
-        flight: 0,
-        page: [0u8; 256],
+        answer: Ok(Told::Flag(flag)),
         assembler,
     }
 }
 
-fn answered(a: AssembleAnswer) -> Played
+fn assembled(a: Assembled) -> Played
     ensures { result ≡ assembled a }
 {
-    let left = a.assembler;
-    flag_alone(a.refused, a.page_ready, left)
+    Played {
+        answer: a.page_ready.map(Told::Flag),
+        assembler: a.assembler,
+    }
 }
 
-fn ready(p: ReadyPage) -> Played
+fn took(p: ReadyPage) -> Played
     ensures { result ≡ took p }
 {
-    let page = p.page;
-    let left = p.assembler;
     Played {
-        refused: 0,
-        flag: p.there,
-        flight: 0,
-        page,
-        assembler: left,
+        answer: Ok(Told::Page(p.page)),
+        assembler: p.assembler,
     }
 }
 
-fn unfinished(assembler: PageAssembler, u: UnfinishedFlight) -> Played
-    ensures { result ≡ found_unfinished assembler (told_unfinished u) }
+fn found_unfinished(assembler: PageAssembler, flight: Option<u32>) -> Played
+    ensures { result ≡ found_unfinished assembler flight }
 {
-    match u {
-        UnfinishedFlight::Nothing => flag_alone(0, false, assembler),
-        UnfinishedFlight::Flight(flight) => Played {
-            refused: 0,
-            flag: true,
-            flight,
-            page: [0u8; 256],
-            assembler,
-        },
+    Played {
+        answer: Ok(Told::Unfinished(flight)),
+        assembler,
     }
-}
-
-fn record_in(row: &[u8]) -> FlightRecord
-    requires { 6 + 48 ≤ length row.now }
-    ensures { result ≡ record_of (take 48 (drop 6 row.now)) }
-{
-    let start = 6;
-    let end = start + blackbox::RECORD_LEN;
-    let a = FlightRecord::decode(&row[start..end]);
-    a.record
 }
 
 // One row: the call at 0, its flag at 1, its flight at 2, its record at 6.
@@ -86,72 +67,55 @@ fn play_row(assembler: PageAssembler, row: &[u8]) -> Played
     requires { SoundAssembler assembler × (6 + 48 ≤ length row.now) }
     ensures { result ≡ play_row assembler row.now }
 {
-    let call = words::byte_at(row, 0);
-    let flag = reply::is_set(words::byte_at(row, 1));
-    if call == 1 {
-        let begun = assembler.start(words::u32_at(row, 2), flag);
-        return flag_alone(0, false, begun);
+    let flag = row[1] != 0;
+    match row[0] {
+        1 => flagged(false, assembler.start(words::number_at(row, 2), flag)),
+        2 => {
+            let record = FlightRecord::decode(&row[6..54]).unwrap_or_default();
+            assembled(assembler.push(record))
+        }
+        3 => assembled(assembler.stop()),
+        4 => took(assembler.take_ready_page()),
+        5 => found_unfinished(assembler, assembler.unfinished_flight(flag)),
+        _ => flagged(assembler.recording(), assembler),
     }
-    if call == 2 {
-        return answered(assembler.push(record_in(row)));
-    }
-    if call == 3 {
-        return answered(assembler.stop());
-    }
-    if call == 4 {
-        return ready(assembler.take_ready_page());
-    }
-    if call == 5 {
-        return unfinished(assembler, assembler.unfinished_flight(flag));
-    }
-    flag_alone(0, assembler.recording(), assembler)
 }
 
 // What the last call of a script answers.
+#[tactic(auto, using(crate::proofs::Turns::turns), unfolding(crate::specs::Script::play_script, crate::specs::Script::play_from))]
 fn play(script: &[u8]) -> Played
     ensures { result ≡ play_script script.now }
 {
-    let rows = script.len() / 54;
-    let mut played = flag_alone(0, false, PageAssembler::new());
-    let mut i = 0;
-    while i < rows {
-        let start = 54 * i;
-        let end = start + 54;
-        let left = played.assembler;
-        played = play_row(left, &script[start..end]);
-        i += 1;
+    let mut played = flagged(false, PageAssembler::new());
+    for row in script.chunks_exact(54) {
+        played = play_row(played.assembler, row);
     }
     played
 }
 
-fn played_head(flag: bool, flight: u32) -> [u8; 5]
-    ensures { result ≡ flag_of flag ∷ le_bytes 4 flight }
-{
-    let mut row = [reply::flag_of(flag), 0, 0, 0, 0];
-    words::put_u32(&mut row, 1, flight);
-    row
-}
-
-fn lay_played(p: Played, answer: &mut [u8]) -> u32
-    ensures value { result ≡ row_reply 261 answer.old (laid played_row (told_played p)) }
-    ensures lent { answer.new ≡ row_after 261 answer.old (laid played_row (told_played p)) }
-{
-    if p.refused != 0 {
-        return reply::refuse(laws::refused(p.refused), answer.len(), 261);
-    }
-    let head = played_head(p.flag, p.flight);
-    let page = p.page;
-    reply::give_two(answer, &head, &page)
-}
-
-// What the last call of a script answers, in the answer row; a script that is no multiple of 54 bytes is refused 17.
-pub fn lay_script(script: &[u8], answer: &mut [u8]) -> u32
-    ensures value { result ≡ row_reply 261 answer.old (laid played_row (last_played script.now)) }
-    ensures lent { answer.new ≡ row_after 261 answer.old (laid played_row (last_played script.now)) }
+// What the last call of a script answers; a script that is no multiple of 54 bytes is refused 17.
+pub fn last_played(script: &[u8]) -> Result<Told, Refusal>
+    ensures { told result ≡ last_played script.now }
 {
     if script.len() % 54 != 0 {
-        return reply::reply_of(laws::refused(laws::BAD_LENGTH));
+        return Err(Refusal::BadLength);
     }
-    let played = play(script);
-    lay_played(played, answer)
+    play(script).answer
+}
+
+// Flag, flight and page in a row, each 0 where the call gives none.
+pub fn played_row(t: Told) -> [u8; 261]
+    ensures { result ≡ played_row t }
+{
+    let mut row = [0; 261];
+    match t {
+        Told::Flag(flag) => row[0] = u8::from(flag),
+        Told::Unfinished(flight) => row[..5].copy_from_slice(&reply::option_row(flight)),
+        Told::Page(None) => {}
+        Told::Page(Some(page)) => {
+            row[0] = 1;
+            row[5..].copy_from_slice(&page);
+        }
+    }
+    row
 }

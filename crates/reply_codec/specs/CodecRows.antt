@@ -4,13 +4,8 @@ use Rattle.laws.specs.Refusals.{bad_length}
 use Rattle.laws.specs.Answers.{Answer, must}
 use Rattle.words.specs.Words.{le_bytes}
 use Rattle.layout.specs.declared.StorageLayout.{StorageLayout}
-use Rattle.layout.specs.declared.LayoutAnswer.{LayoutAnswer}
 use Rattle.blackbox.specs.Page.{rows_per_page, encoded, records_in}
-use Rattle.blackbox.specs.declared.FlightRecord.{FlightRecord}
 use Rattle.blackbox.specs.declared.PageMetadata.{PageMetadata}
-use Rattle.blackbox.specs.declared.RecordAnswer.{RecordAnswer}
-use Rattle.blackbox.specs.declared.EncodedPage.{EncodedPage}
-use Rattle.reply.specs.Reply.{held_as}
 
 -- capacity, the two config slots, the log's start and its pages
 unfoldable pub layout_row : StorageLayout → List ℕ
@@ -25,17 +20,6 @@ metadata_row m = le_bytes 4 m.flight_id ++ (le_bytes 4 m.page_sequence ++ (m.rec
 -- a page as it is
 abbrev pub as_is : List ℕ → List ℕ
 as_is page = page
-
--- ---- what the answers tell that hold a number beside the value
-
-abbrev pub told_layout : LayoutAnswer → Answer StorageLayout
-told_layout a = held_as a.refused a.layout
-
-abbrev pub told_record : RecordAnswer → Answer FlightRecord
-told_record a = held_as a.refused a.«record»
-
-abbrev pub told_page : EncodedPage → Answer (List ℕ)
-told_page a = held_as a.refused a.page
 
 -- ---- a page from bytes
 

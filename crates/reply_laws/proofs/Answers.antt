@@ -4,9 +4,9 @@ use Prim.Native.Nat.{ℕ, zero, suc, ◌+◌, ◌-◌, ◌/◌, ◌<◌, ◌≤�
 use mathlib.Core.Path.{◌≡◌, refl, sym}
 use mathlib.Core.Bool.{Bool, true, false, cond, not}
 use mathlib.Core.List.{List}
-use mathlib.Core.Option.{Option, none, some}
+use Rattle.std.specs.Prelude.{Option, None, Some}
+use Rattle.std.specs.declared.ops.ControlFlow.TheVariants.{Continue, Break}
 use native.Mathlib.Omega.{arith}
-use borrow.Author.Tests.{eq-eqb}
 use lib.Dec.{eqb, leb, ltb}
 use lib.ListN.{length, get_or, take, drop}
 use Rattle.laws.specs.Refusals as Number
@@ -33,20 +33,12 @@ use Rattle.sync_ledger.specs.declared.MarkStep.{MarkStep}
 use Rattle.sync_ledger.specs.declared.MarkStep.TheVariants.{EraseLedger, ProgramHeader, ProgramBit, Done}
 use Rattle.log_search.specs.Search.{or_corrupt, flight_id_of, reaches, lower_bound, end_of, found_from, found, older, found_flight, older_flight}
 use Rattle.log_search.specs.declared.StoredFlight.{StoredFlight}
-use Rattle.log_sync.specs.Walk.{Visit, onward, enough, after, visited, walk_from, walk}
-use Rattle.log_sync.specs.Sync.{is_recorded, never_past, acknowledged, wanted, no_flights, added, overfull, listing, list_visit, list_answer, unsynced_flights, all_visit, all_acknowledged, unless_recording, all_synced, held_against, ack_found, ack_checked}
-use Rattle.log_sync.specs.declared.Recording.{Recording}
-use Rattle.log_sync.specs.declared.Recording.TheVariants as Recorded
-use Rattle.log_sync.specs.declared.Unsynced.{Unsynced}
+use Rattle.log_sync.specs.Walk.{Visit, after, visited, walk_from, walk}
+use Rattle.log_sync.specs.Sync.{is_recorded, never_past, acknowledged, wanted, no_flights, listed, list_visit, unsynced_flights, all_visit, all_acknowledged, unless_recording, all_synced, held_against, ack_found, ack_checked}
 use Rattle.log_lines.specs.Lines.{unsynced}
 use Rattle.reply_codec.specs.CodecRows.{encoded_rows}
-use Rattle.reply_text.specs.TextRows.{told_list, lines_of}
+use Rattle.reply_text.specs.TextRows.{lines_of}
 use Rattle.reply_laws.specs.Laws.{Listed, Holds, Anything, Proper}
-
--- what a visit keeps
-abbrev Kept : {S : Type 0} → (S → Type 0) → Visit S → Type 0
-Kept P (onward s) = P s
-Kept P (enough s) = P s
 
 -- ---- links of a chain
 
@@ -54,7 +46,7 @@ Kept P (enough s) = P s
 pub plain : (number : ℕ) → 0 < number → number ≤ 17 → Listed number 0
 plain number s k = record { some = s; known = k; quiet = λ _. refl }
 
-faulty : (fault : ℕ) → Listed Number.device fault
+pub faulty : (fault : ℕ) → Listed Number.device fault
 faulty fault = record { some = omega arith; known = omega arith; quiet = λ h. absurd (h refl) }
 
 pub ok : {A : Type 0} {P : A → Type 0} (a : A) → P a → Holds P (gives a)
@@ -150,16 +142,16 @@ module _ (image faults : List ℕ) where
   own i = call Anything Anything _ _ (page i) (λ r _. any _)
 
   else : (o : Option PageFlight) (other : Answer (Option PageFlight)) → Proper other → Proper (or_else o other)
-  else none other h = h
-  else (some f) other h = any (some f)
+  else None other h = h
+  else (Some f) other h = any (Some f)
 
   pub flight : (i : ℕ) → Proper (page_flight image faults i)
   unfolding page_flight
-  flight i = call Anything Anything _ _ (own i) (λ o _. else o _ (choice Anything (eqb i 0) (gives none) _ (any none) (own (i - 1))))
+  flight i = call Anything Anything _ _ (own i) (λ o _. else o _ (choice Anything (eqb i 0) (gives None) _ (any None) (own (i - 1))))
 
   begun : (o : Option PageFlight) (rest : Answer Scan) → Proper rest → Proper (if_begun o rest)
-  begun none rest h = any _
-  begun (some f) rest h = h
+  begun None rest h = any _
+  begun (Some f) rest h = h
 
   pub scanning : (pages : ℕ) → Proper (scan_pages pages image faults)
   unfolding scan_pages used_pages halving verdict
@@ -169,8 +161,8 @@ module _ (image faults : List ℕ) where
       (call Anything Anything _ _ (own 0) (λ o _. begun o _ (call Anything Anything _ _ (flight (used - 1)) (λ f _. any _)))))
 
   corrupted : (o : Option PageFlight) → Proper (or_corrupt o)
-  corrupted none = no 7 0 (plain 7 (omega arith) (omega arith))
-  corrupted (some f) = any _
+  corrupted None = no 7 0 (plain 7 (omega arith) (omega arith))
+  corrupted (Some f) = any _
 
   pub identified : (pages i : ℕ) → Proper (flight_id_of pages image faults i)
   unfolding flight_id_of
@@ -190,33 +182,32 @@ module _ (flight_at : ℕ → Answer ℕ) (h : (i : ℕ) → Proper (flight_at i
   unfolding found found_from
   finding used f =
       call Anything Anything _ _ (bound used f)
-      (λ start _. choice Anything (eqb start used) _ _ (any none)
-      (call Anything Anything _ _ (h start) (λ g _. choice Anything (eqb g f) _ _ (call Anything Anything _ _ (ending used f) (λ e _. any _)) (any none))))
+      (λ start _. choice Anything (eqb start used) _ _ (any None)
+      (call Anything Anything _ _ (h start) (λ g _. choice Anything (eqb g f) _ _ (call Anything Anything _ _ (ending used f) (λ e _. any _)) (any None))))
 
   pub stepping : (end : ℕ) → Proper (older flight_at end)
   unfolding older
   stepping end =
-      choice Anything (eqb end 0) _ _ (any none)
+      choice Anything (eqb end 0) _ _ (any None)
       (call Anything Anything _ _ (h (end - 1)) (λ f _. call Anything Anything _ _ (bound end f) (λ start _. any _)))
 
-  -- ---- the walk keeps what every visit keeps
+  -- ---- the walk, by any visit
 
-  module _ {S : Type 0} (P : S → Type 0) (visit : S → StoredFlight → Answer (Visit S)) where
-    module _ (k : (s : S) (f : StoredFlight) → P s → Holds (Kept P) (visit s f)) where
-      walked : (fuel end : ℕ) (s : S) → P s → Holds P (walk_from flight_at visit fuel end s)
-      unfolding walk_from
-      walked zero end s p = ok s p
-      walked (suc fuel) end s p = call Anything P _ _ (stepping end) (λ o _. next (λ e t q. walked fuel e t q) o)
-        where
-          followed : ((e : ℕ) (t : S) → P t → Holds P (walk_from flight_at visit fuel e t)) → (f : StoredFlight) (v : Visit S) → Kept P v
-              → Holds P (after flight_at visit (walk_from flight_at visit fuel) f v)
-          followed ih f (onward t) q = ih f.start_page t q
-          followed ih f (enough t) q = ok t q
+  module _ {S : Type 0} (visit : S → StoredFlight → Answer (Visit S)) (k : (s : S) (f : StoredFlight) → Proper (visit s f)) where
+    walked : (fuel end : ℕ) (s : S) → Proper (walk_from flight_at visit fuel end s)
+    unfolding walk_from
+    walked zero end s = any s
+    walked (suc fuel) end s = call Anything Anything _ _ (stepping end) (λ o _. next (walked fuel) o)
+      where
+        followed : ((e : ℕ) (t : S) → Proper (walk_from flight_at visit fuel e t)) → (f : StoredFlight) (v : Visit S)
+            → Proper (after flight_at visit (walk_from flight_at visit fuel) f v)
+        followed ih f (Continue t) = ih f.start_page t
+        followed ih f (Break t) = any t
 
-          next : ((e : ℕ) (t : S) → P t → Holds P (walk_from flight_at visit fuel e t)) → (o : Option StoredFlight)
-              → Holds P (visited flight_at visit (walk_from flight_at visit fuel) s o)
-          next ih none = ok s p
-          next ih (some f) = call (Kept P) P _ _ (k s f p) (λ v q. followed ih f v q)
+        next : ((e : ℕ) (t : S) → Proper (walk_from flight_at visit fuel e t)) → (o : Option StoredFlight)
+            → Proper (visited flight_at visit (walk_from flight_at visit fuel) s o)
+        next ih None = any s
+        next ih (Some f) = call Anything Anything _ _ (k s f) (λ v _. followed ih f v)
 
 -- ---- codec and layout
 
@@ -361,60 +352,34 @@ module _ (c : ℕ) (image faults : List ℕ) where
   unfolding acknowledged
   acked f = never _ (synced f)
 
-  wants : (recorded : Recording) (f : ℕ) → Proper (wanted c image faults recorded f)
+  wants : (recorded : Option ℕ) (f : ℕ) → Proper (wanted c image faults recorded f)
   unfolding wanted
   wants recorded f = call Anything Anything _ _ (acked f) (λ b _. any _)
 
-  abbrev unrefused : Unsynced → Type 0
-  unrefused u = u.refused ≡ 0
-
-  module _ (flight_at : ℕ → Answer ℕ) (h : (i : ℕ) → Proper (flight_at i)) (want : ℕ → Answer Bool) (w : (f : ℕ) → Proper (want f)) where
-    listed : (u : Unsynced) (f : StoredFlight) (b : Bool) → unrefused u → Kept unrefused (listing u f b)
-    listed u f false p = p
-    listed u f true p = go (ltb u.count 8)
-      where
-        go : (b : Bool) → Kept unrefused (cond b (onward (added u f)) (enough (overfull u)))
-        go true = p
-        go false = p
-
-    listing_all : (used : ℕ) → Holds unrefused (walk flight_at (list_visit want) used no_flights)
-    unfolding walk list_visit
-    listing_all used =
-        walked flight_at h unrefused (list_visit want)
-        (λ u f p. call Anything (Kept unrefused) _ _ (w f.flight_id) (λ b _. ok _ (listed u f b p))) used used no_flights refl
-
-  told : (a : Answer Unsynced) → Holds unrefused a → Proper (told_list (list_answer a))
-  told (gives u) h = rw (eq-eqb u.refused 0 (h.given u refl)) (any u)
-  told (refuses number fault) h =
-      choice Anything (eqb number 0) _ _ (any _) (no number fault (h.refused number fault refl))
-
-  pub list : (used : ℕ) (recorded : Recording) → Proper (told_list (unsynced_flights c image faults used recorded))
-  unfolding unsynced_flights
+  pub list : (used : ℕ) (recorded : Option ℕ) → Proper (unsynced_flights c image faults used recorded)
+  unfolding unsynced_flights listed walk list_visit
   list used recorded =
-      told _ (on_lengths_lem unrefused c (length image) (length faults) (c / 256) _
-      (listing_all (flight_id_of (pages_in c) image faults) (identified image faults (pages_in c)) (wanted c image faults recorded) (wants recorded) used))
+      on_lengths_lem Anything c (length image) (length faults) (c / 256) _
+      (walked (flight_id_of (pages_in c) image faults) (identified image faults (pages_in c)) (list_visit (wanted c image faults recorded))
+      (λ u f. call Anything Anything _ _ (wants recorded f.flight_id) (λ b _. any _)) used used no_flights)
 
-  unless : (recorded : Recording) (rest : Answer Bool) → Proper rest → Proper (unless_recording recorded rest)
-  unless Recorded.Nothing rest h = h
-  unless (Recorded.Flight f) rest h = any false
+  unless : (recorded : Option ℕ) (rest : Answer Bool) → Proper rest → Proper (unless_recording recorded rest)
+  unless None rest h = h
+  unless (Some f) rest h = any false
 
-  seen : (b : Bool) → Kept Anything (cond b (onward true) (enough false))
-  seen true = tt
-  seen false = tt
-
-  pub all : (used : ℕ) (recorded : Recording) → Proper (all_synced c image faults used recorded)
+  pub all : (used : ℕ) (recorded : Option ℕ) → Proper (all_synced c image faults used recorded)
   unfolding all_synced all_acknowledged walk
   all used recorded =
       on_lengths_lem Anything c (length image) (length faults) (c / 256) _
       (unless recorded _
-      (walked (flight_id_of (pages_in c) image faults) (identified image faults (pages_in c)) Anything (all_visit (acknowledged c image faults))
-      (λ s f _. call Anything (Kept Anything) _ _ (acked f.flight_id) (λ b _. ok _ (seen b))) used used true tt))
+      (walked (flight_id_of (pages_in c) image faults) (identified image faults (pages_in c)) (all_visit (acknowledged c image faults))
+      (λ s f. call Anything Anything _ _ (acked f.flight_id) (λ b _. any _)) used used true))
 
   held : (pages : ℕ) (o : Option StoredFlight) → Proper (held_against pages o)
-  held pages none = no 12 0 (plain 12 (omega arith) (omega arith))
-  held pages (some f) = test Anything (eqb f.pages pages) Number.length_changed _ (plain 14 (omega arith) (omega arith)) (any tt)
+  held pages None = no 12 0 (plain 12 (omega arith) (omega arith))
+  held pages (Some f) = test Anything (eqb f.pages pages) Number.length_changed _ (plain 14 (omega arith) (omega arith)) (any tt)
 
-  pub ack : (used : ℕ) (recorded : Recording) (f pages : ℕ) → Proper (ack_checked c image faults used recorded f pages)
+  pub ack : (used : ℕ) (recorded : Option ℕ) (f pages : ℕ) → Proper (ack_checked c image faults used recorded f pages)
   unfolding ack_checked ack_found
   ack used recorded f pages =
       on_lengths_lem Anything c (length image) (length faults) (c / 256) _

@@ -1,26 +1,18 @@
 -- What a caller may conclude from a reply, shown of every export's answer. Assumes nothing.
-use Prim.Native.Nat.{ℕ, zero, suc, ◌/◌, ◌%◌, ◌≤◌}
+use Prim.Native.Nat.{ℕ, ◌%◌}
 use mathlib.Core.Path.{refl}
-use mathlib.Core.Bool.{Bool, true, false, cond}
 use mathlib.Core.List.{List, []}
-use mathlib.Core.Option.{Option, none, some}
 use native.Mathlib.Omega.{arith}
-use borrow.Author.Tests.{ne_eqb}
-use lib.Dec.{eqb, ltb}
-use lib.ListN.{length, get_or, take, drop}
+use lib.Dec.{eqb}
+use lib.ListN.{length}
+use Rattle.std.specs.Prelude.{Result, Ok, Err}
 use Rattle.laws.specs.Refusals as Number
-use Rattle.laws.specs.Answers.{Answer, gives, refuses}
-use Rattle.words.specs.Words.{u32_at}
-use Rattle.blackbox.specs.Record.{record_of}
-use Rattle.blackbox.specs.Page.{encoded}
-use Rattle.blackbox.specs.declared.FlightRecord.{FlightRecord}
-use Rattle.assembler.specs.Assembler.{fresh, started, marked, laid as laid_row, answered, refused_as, encoded_into, finishing, filled, pushed, unrecorded, stopped, taken, unfinished_flight}
-use Rattle.assembler.specs.declared.PageAssembler.{PageAssembler}
-use Rattle.assembler.specs.declared.AssembleAnswer.{AssembleAnswer}
-use Rattle.reply.specs.Reply.{is_set, rowed, held_as}
-use Rattle.reply_assembler.specs.Script.{flagged, assembled, took, found_unfinished, play_row, play_from, play_script, last_played}
-use Rattle.reply_assembler.specs.declared.Played.{Played}
-use Rattle.reply_laws.specs.Laws.{Anything, Proper, RowProper, ZeroGives, EveryAnswer}
+use Rattle.laws.specs.Answers.{gives, refuses, number_of, fault_of, told}
+use Rattle.laws.specs.declared.Refusal.{Refusal}
+use Rattle.laws.specs.declared.Refusal.TheVariants as Why
+use Rattle.reply.specs.Reply.{rowed}
+use Rattle.reply_assembler.specs.Script.{play_script, last_played}
+use Rattle.reply_laws.specs.Laws.{Anything, Listed, Proper, RowProper, ZeroGives, EveryAnswer}
 use Rattle.reply_laws.proofs.Answers as Each
 
 pub row_proper : RowProper
@@ -34,79 +26,35 @@ pub zero_gives : ZeroGives
 zero_gives A (gives a) h e = (a, refl)
 zero_gives A (refuses number fault) h e = absurd (omega (arith, (h.refused number fault refl).some))
 
--- ---- the assembler's numbers
+-- ---- the assembler: what it answers is told of a `Result`
 
-finish_known : (a : PageAssembler) → (finishing a).refused ≤ 17
-unfolding finishing
-finish_known a = go a.page_ready (encoded a.flight_id a.page_sequence a.records a.record_count)
-  where
-    go : (b : Bool) (x : Answer (List ℕ)) → (cond b (refused_as Number.page_not_consumed a) (encoded_into a x)).refused ≤ 17
-    go true x = omega arith
-    go false (gives page) = omega arith
-    go false (refuses number fault) = omega arith
+listed : (r : Refusal) → Listed (number_of r) (fault_of r)
+listed Why.InvalidRecordCount = Each.plain 1 (omega arith) (omega arith)
+listed Why.InvalidMagic = Each.plain 2 (omega arith) (omega arith)
+listed Why.UnsupportedVersion = Each.plain 3 (omega arith) (omega arith)
+listed Why.CrcMismatch = Each.plain 4 (omega arith) (omega arith)
+listed Why.InvalidLayout = Each.plain 5 (omega arith) (omega arith)
+listed (Why.Device fault) = Each.faulty fault
+listed Why.Corrupt = Each.plain 7 (omega arith) (omega arith)
+listed Why.OutOfRange = Each.plain 8 (omega arith) (omega arith)
+listed Why.NotRecording = Each.plain 9 (omega arith) (omega arith)
+listed Why.PageNotConsumed = Each.plain 10 (omega arith) (omega arith)
+listed Why.Format = Each.plain 11 (omega arith) (omega arith)
+listed Why.NoSuchFlight = Each.plain 12 (omega arith) (omega arith)
+listed Why.Recording = Each.plain 13 (omega arith) (omega arith)
+listed Why.LengthChanged = Each.plain 14 (omega arith) (omega arith)
+listed Why.LedgerFull = Each.plain 15 (omega arith) (omega arith)
+listed Why.QueueFull = Each.plain 16 (omega arith) (omega arith)
+listed Why.BadLength = Each.plain 17 (omega arith) (omega arith)
 
-fill_known : (a : PageAssembler) → (filled a).refused ≤ 17
-unfolding filled
-fill_known a = go (ltb a.record_count 5) (finish_known a)
-  where
-    go : (b : Bool) → (finishing a).refused ≤ 17 → (cond b (answered false a) (finishing a)).refused ≤ 17
-    go true h = omega arith
-    go false h = h
-
-push_known : (a : PageAssembler) (r : FlightRecord) → (pushed a r).refused ≤ 17
-unfolding pushed
-push_known a r = go a.recording a.page_ready (filled (laid_row a (marked a.boot_session_start_pending r))) (fill_known _)
-  where
-    go : (b d : Bool) (x : AssembleAnswer) → x.refused ≤ 17
-        → (cond b (cond d (refused_as Number.page_not_consumed a) x) (refused_as Number.not_recording a)).refused ≤ 17
-    go true true x h = omega arith
-    go true false x h = h
-    go false d x h = omega arith
-
-stop_known : (a : PageAssembler) → (stopped a).refused ≤ 17
-unfolding stopped
-stop_known a = go (eqb a.record_count 0) (finishing (unrecorded a)) (finish_known (unrecorded a))
-  where
-    go : (b : Bool) (x : AssembleAnswer) → x.refused ≤ 17 → (cond b (answered a.page_ready (unrecorded a)) x).refused ≤ 17
-    go true x h = omega arith
-    go false x h = h
-
-found_known : (a : PageAssembler) (o : Option ℕ) → (found_unfinished a o).refused ≤ 17
-found_known a none = omega arith
-found_known a (some f) = omega arith
-
-row_known : (a : PageAssembler) (row : List ℕ) → (play_row a row).refused ≤ 17
-unfolding play_row
-row_known a row = go (eqb (get_or row 0 0) 1) (eqb (get_or row 0 0) 2) (eqb (get_or row 0 0) 3) (eqb (get_or row 0 0) 4) (eqb (get_or row 0 0) 5)
-  where
-    go : (b₁ b₂ b₃ b₄ b₅ : Bool)
-        → (cond b₁ (flagged 0 false (started a (u32_at row 2) (is_set (get_or row 1 0))))
-        (cond b₂ (assembled (pushed a (record_of (take 48 (drop 6 row)))))
-        (cond b₃ (assembled (stopped a))
-        (cond b₄ (took (taken a))
-        (cond b₅ (found_unfinished a (unfinished_flight a (is_set (get_or row 1 0)))) (flagged 0 a.recording a)))))).refused
-        ≤ 17
-    go true b₂ b₃ b₄ b₅ = omega arith
-    go false true b₃ b₄ b₅ = push_known a (record_of (take 48 (drop 6 row)))
-    go false false true b₄ b₅ = stop_known a
-    go false false false true b₅ = omega arith
-    go false false false false true = found_known a (unfinished_flight a (is_set (get_or row 1 0)))
-    go false false false false false = omega arith
-
-played_known : (n : ℕ) (p : Played) (rows : List ℕ) → p.refused ≤ 17 → (play_from n p rows).refused ≤ 17
-unfolding play_from
-played_known zero p rows h = h
-played_known (suc n) p rows h = played_known n (play_row p.assembler (take 54 rows)) (drop 54 rows) (row_known p.assembler (take 54 rows))
-
-held_known : {A : Type 0} (number : ℕ) (value : A) → number ≤ 17 → Proper (held_as number value)
-held_known zero value h = Each.any value
-held_known (suc n) value h = rw (ne_eqb (suc n) 0 (λ e. omega arith)) (Each.no (suc n) 0 (Each.plain (suc n) (omega arith) h))
+told_proper : {A : Type 0} (a : Result A Refusal) → Proper (told a)
+told_proper (Ok a) = Each.any a
+told_proper (Err r) = Each.no (number_of r) (fault_of r) (listed r)
 
 assembles : (script : List ℕ) → Proper (last_played script)
-unfolding last_played play_script
+unfolding last_played
 assembles script =
-    Each.test Anything (eqb (length script % 54) 0) Number.bad_length _ Each.seventeen
-    (held_known _ _ (played_known (length script / 54) (flagged 0 false fresh) script (omega arith)))
+    Each.test Anything (eqb (length script % 54) 0) Number.bad_length _ Each.seventeen (told_proper (play_script script).answer)
 
 pub every_answer : EveryAnswer
 every_answer =

@@ -1,6 +1,6 @@
 -- What a caller may conclude from a reply. Document 01, "Refusal numbers": "A refused answer carries its number, the fault byte for 6, and
 -- zeros elsewhere"; so a reply of 0 says that nothing is refused. proofs/ shows it of every answer that an export gives.
-use Rattle.std.specs.Prelude.{ℕ, ◌<◌, ◌≤◌, ◌≡◌, List}
+use Rattle.std.specs.Prelude.{ℕ, ◌<◌, ◌≤◌, ◌≡◌, Option, List}
 use Rattle.laws.specs.Refusals.{device}
 use Rattle.laws.specs.Answers.{Answer, gives, refuses}
 use Rattle.blackbox.specs.Record.{record_decoded}
@@ -14,10 +14,9 @@ use Rattle.sync_ledger.specs.Ledger.{read_header, bit_location, is_synced, next_
 use Rattle.sync_ledger.specs.declared.MarkStep.{MarkStep}
 use Rattle.log_search.specs.Search.{found_flight, older_flight}
 use Rattle.log_sync.specs.Sync.{unsynced_flights, all_synced, ack_checked}
-use Rattle.log_sync.specs.declared.Recording.{Recording}
 use Rattle.reply.specs.Reply.{reply_of, laid, rowed}
 use Rattle.reply_codec.specs.CodecRows.{encoded_rows}
-use Rattle.reply_text.specs.TextRows.{told_list, lines_of}
+use Rattle.reply_text.specs.TextRows.{lines_of}
 use Rattle.reply_assembler.specs.Script.{last_played}
 
 -- a number of document 01's table, and a fault byte for 6 alone
@@ -70,10 +69,10 @@ pub record EveryAnswer : Type 0 where
   pub synced : (capacity : ℕ) (image faults : List ℕ) (flight : ℕ) → Proper (is_synced capacity image faults flight)
   pub mark_step : (capacity : ℕ) (image faults : List ℕ) (flight : ℕ) → Proper (next_mark_step capacity image faults flight)
   pub starts_step : (capacity : ℕ) (image : List ℕ) (step : MarkStep) (keep : List ℕ) (reply : ℕ) → Proper (step_told capacity image step keep reply)
-  pub unsynced_list : (capacity : ℕ) (image faults : List ℕ) (used : ℕ) (recording : Recording)
-      → Proper (told_list (unsynced_flights capacity image faults used recording))
-  pub all_acknowledged_lem : (capacity : ℕ) (image faults : List ℕ) (used : ℕ) (recording : Recording) → Proper (all_synced capacity image faults used recording)
-  pub acknowledges : (capacity : ℕ) (image faults : List ℕ) (used : ℕ) (recording : Recording) (flight pages : ℕ)
+  pub unsynced_list : (capacity : ℕ) (image faults : List ℕ) (used : ℕ) (recording : Option ℕ)
+      → Proper (unsynced_flights capacity image faults used recording)
+  pub all_acknowledged_lem : (capacity : ℕ) (image faults : List ℕ) (used : ℕ) (recording : Option ℕ) → Proper (all_synced capacity image faults used recording)
+  pub acknowledges : (capacity : ℕ) (image faults : List ℕ) (used : ℕ) (recording : Option ℕ) (flight pages : ℕ)
       → Proper (ack_checked capacity image faults used recording flight pages)
   pub lines : (flights : List ℕ) (count more : ℕ) → Proper (lines_of flights count more)
   pub assembles : (script : List ℕ) → Proper (last_played script)

@@ -1,20 +1,16 @@
 -- What the calls of scan, search, ledger and log sync lay in their answer rows, number by number in the order of the struct's fields,
 -- and what the numbers that they are handed stand for.
-use Rattle.std.specs.Prelude.{ℕ, Bool, true, false, cond, List, [], ◌∷◌, ◌++◌, eqb}
-use Rattle.std.proofs.Math.Option.{Option, none, some}
+use Rattle.std.specs.Prelude.{ℕ, Bool, true, false, cond, Option, None, Some, List, [], ◌∷◌, ◌++◌, eqb}
 use Rattle.words.specs.Words.{le_bytes}
 use Rattle.records.specs.declared.Scan.{Scan}
 use Rattle.records.specs.declared.PageFlight.{PageFlight}
-use Rattle.records.specs.declared.Reason.{Reason}
-use Rattle.records.specs.declared.Reason.TheVariants as Why
+use Rattle.records.specs.Explain.{ToldReason, first_torn, last_torn, full, nothing}
 use Rattle.sync_ledger.specs.declared.LedgerHeader.{LedgerHeader}
 use Rattle.sync_ledger.specs.declared.LedgerHeader.TheVariants as Header
 use Rattle.sync_ledger.specs.declared.BitLocation.{BitLocation}
 use Rattle.sync_ledger.specs.declared.MarkStep.{MarkStep}
 use Rattle.sync_ledger.specs.declared.MarkStep.TheVariants as Mark
 use Rattle.log_search.specs.declared.StoredFlight.{StoredFlight}
-use Rattle.log_sync.specs.declared.Recording.{Recording}
-use Rattle.log_sync.specs.declared.Recording.TheVariants as Recorded
 use Rattle.reply.specs.Reply.{is_set, flag_of, some_row}
 
 -- ---- rows
@@ -28,16 +24,16 @@ scan_row s = le_bytes 4 s.next_page ++ (le_bytes 4 s.next_flight ++ (flag_of s.w
 unfoldable pub reason_numbers : ℕ → ℕ → ℕ → ℕ → ℕ → List ℕ
 reason_numbers reason earlier later i j = reason ∷ earlier ∷ later ∷ (le_bytes 4 i ++ le_bytes 4 j)
 
-abbrev pub reason_row : Reason → List ℕ
-reason_row Why.Nothing = reason_numbers 0 0 0 0 0
-reason_row (Why.FirstTorn number) = reason_numbers 1 number 0 0 0
-reason_row (Why.LastTorn t) = reason_numbers 2 t.earlier t.later t.earlier_page t.later_page
-reason_row Why.Full = reason_numbers 3 0 0 0 0
+abbrev pub reason_row : ToldReason → List ℕ
+reason_row nothing = reason_numbers 0 0 0 0 0
+reason_row (first_torn by) = reason_numbers 1 by.number 0 0 0
+reason_row (last_torn t) = reason_numbers 2 t.earlier.number t.later.number t.earlier_page t.later_page
+reason_row full = reason_numbers 3 0 0 0 0
 
 -- a page's flight, an Option
 abbrev pub flight_row : Option PageFlight → List ℕ
-flight_row none = 0 ∷ 0 ∷ 0 ∷ 0 ∷ 0 ∷ []
-flight_row (some f) = some_row f.flight_id
+flight_row None = 0 ∷ 0 ∷ 0 ∷ 0 ∷ 0 ∷ []
+flight_row (Some f) = some_row f.flight_id
 
 -- flight, start page, pages
 unfoldable pub stored_row : StoredFlight → List ℕ
@@ -45,8 +41,8 @@ stored_row f = le_bytes 4 f.flight_id ++ (le_bytes 4 f.start_page ++ le_bytes 4 
 
 -- a stored flight, an Option
 abbrev pub found_row : Option StoredFlight → List ℕ
-found_row none = 0 ∷ 0 ∷ 0 ∷ 0 ∷ 0 ∷ 0 ∷ 0 ∷ 0 ∷ 0 ∷ 0 ∷ 0 ∷ 0 ∷ 0 ∷ []
-found_row (some f) = 1 ∷ stored_row f
+found_row None = 0 ∷ 0 ∷ 0 ∷ 0 ∷ 0 ∷ 0 ∷ 0 ∷ 0 ∷ 0 ∷ 0 ∷ 0 ∷ 0 ∷ 0 ∷ []
+found_row (Some f) = 1 ∷ stored_row f
 
 -- one flag
 abbrev pub flag_row : Bool → List ℕ
@@ -82,9 +78,9 @@ step_of kind address value =
     (cond (eqb kind 1) (Mark.ProgramHeader address) (cond (eqb kind 2) (Mark.ProgramBit address value) Mark.Done))
 
 -- an Option is a flag and a number
-abbrev pub recording_if : Bool → ℕ → Recording
-recording_if true flight = Recorded.Flight flight
-recording_if false flight = Recorded.Nothing
+abbrev pub recording_if : Bool → ℕ → Option ℕ
+recording_if true flight = Some flight
+recording_if false flight = None
 
-abbrev pub recording_of : ℕ → ℕ → Recording
+abbrev pub recording_of : ℕ → ℕ → Option ℕ
 recording_of flag flight = recording_if (is_set flag) flight

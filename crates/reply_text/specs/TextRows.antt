@@ -1,21 +1,16 @@
 -- What the calls of the unsynced list, its lines and the ERR texts lay in their answer rows, and the flights that are handed in as bytes.
-use Rattle.std.specs.Prelude.{ℕ, ◌+◌, ◌%◌, cond, List, [], ◌∷◌, ◌++◌, map, eqb, length}
+use Rattle.std.specs.Prelude.{ℕ, ◌+◌, ◌%◌, List, [], ◌∷◌, ◌++◌, map, eqb, length}
 use Rattle.laws.specs.Refusals.{bad_length}
-use Rattle.laws.specs.Answers.{Answer, gives, refuses, must}
+use Rattle.laws.specs.Answers.{Answer, must}
 use Rattle.words.specs.Words.{le_bytes, u32_at}
 use Rattle.blackbox.specs.Page.{joined, padded}
 use Rattle.log_search.specs.declared.StoredFlight.{StoredFlight}
 use Rattle.log_sync.specs.declared.Unsynced.{Unsynced}
 use Rattle.log_lines.specs.Lines.{unsynced}
-use Rattle.log_lines.specs.declared.Lines.{Lines}
-use Rattle.reply.specs.Reply.{is_set, flag_of, held_as}
+use Rattle.reply.specs.Reply.{is_set, flag_of}
 use Rattle.reply_log.specs.LogRows.{stored_row}
 
 -- ---- the list
-
--- the list, or its refusal: a number and a fault byte, which are 0 where nothing is refused
-abbrev pub told_list : Unsynced → Answer Unsynced
-told_list u = cond (eqb u.refused 0) (gives u) (refuses u.refused u.fault)
 
 -- the count (at most eight) and whether a ninth exists, then the eight entries
 unfoldable pub list_row : Unsynced → List ℕ
@@ -26,14 +21,6 @@ list_row u = (u.count % 256 ∷ flag_of u.more ∷ []) ++ joined (map stored_row
 -- the length of a text, and the text in an array with 0x00 behind it
 unfoldable pub text_row : ℕ → List ℕ → List ℕ
 text_row room text = le_bytes 4 (length text) ++ padded room 0 text
-
--- lines, or their refusal, as they are held: a refusal's number, 0 where there is none, and then no text
-abbrev pub told_lines : Lines → Answer Lines
-told_lines lines = held_as lines.refused lines
-
--- the length, and the array
-abbrev pub lines_row : Lines → List ℕ
-lines_row lines = le_bytes 4 lines.len ++ lines.text
 
 -- ---- flights that are handed in
 

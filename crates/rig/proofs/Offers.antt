@@ -1,58 +1,117 @@
--- An offered record that is stored where the queue stands: it is the operation that its row says. Assumes nothing.
-use Prim.Native.Nat.{ℕ, ◌+◌, ◌-◌, ◌*◌, ◌<◌}
+-- What each arm of the player's loop leaves is what the row's operation does. Assumes nothing.
+use Prim.Native.Nat.{ℕ, ◌+◌}
 use mathlib.Core.Path.{◌≡◌, refl, sym, ap, ◌∙◌, subst}
+use mathlib.Core.Bool.{Bool, true, false}
 use mathlib.Core.List.{List}
-use lib.ListN.{length, get_or, set, take, drop}
-use Rattle.words.specs.Words.{placed}
-use Rattle.store.specs.Store.{part}
-use Rattle.blackbox.specs.Record.{record_of}
+use lib.ListN.{set}
+use mir.Val.{bool_byte}
+use denote.Ref.{Bor}
+use Rattle.laws.specs.Answers.{gives, refuses}
 use Rattle.blackbox.specs.declared.FlightRecord.{FlightRecord}
-use Rattle.queue.specs.Queue.{record_queue, slot_at, offered, place_behind, kept_or_offered}
-use Rattle.queue.specs.declared.Place.{Place}
+use Rattle.store.specs.Store.{no_faults}
+use Rattle.records.specs.Scan.{scanned}
+use Rattle.queue.specs.Queue.{record_queue, offered, place_behind}
 use Rattle.queue.specs.declared.RecordQueue.{RecordQueue}
-use Rattle.queue.specs.WellFormed.{SoundQueue}
-use Rattle.queue.specs.declared.OfferAnswer.{OfferAnswer}
-use Rattle.queue.proofs.Laws.{offer_keeps}
-use Rattle.queue.proofs.Ways.{offers_there}
+use Rattle.queue.proofs.Ways.{offer_placed, offer_refused}
+use Rattle.log_state.specs.Writer.{recovered}
+use Rattle.log_state.specs.Flush.{flushed}
 use Rattle.log_state.specs.declared.LogWriter.{LogWriter}
-use Rattle.script.specs.Script.{rows_in}
-use Rattle.rig.specs.Rig.{bench, playing, offering, tells_of}
-use Rattle.rig.specs.Laws.{SoundBench}
+use Rattle.log_state.specs.declared.FlushAnswer.{FlushAnswer}
+use Rattle.log_writer.specs.Pass.{drain_report}
+use Rattle.log_writer.specs.declared.DrainOrder.{DrainOrder}
+use Rattle.log_writer.specs.declared.DrainReport.{DrainReport}
+use Rattle.log_writer.specs.declared.NextProgram.{NextProgram}
+use Rattle.std.specs.Prelude.{Option, Some, IfSome}
+use Rattle.script.specs.Script.{drains, writes, flag_byte, operation_in}
+use Rattle.script.specs.Said.{said, Fitting}
+use Rattle.script.specs.declared.Operation as Code
+use Rattle.script.specs.declared.Operation.TheVariants.{Offer, Drain, Write, Power, Recover, Reset, Flush}
+use Rattle.rig.specs.Rig.{bench, playing, offering, powering, played, image_after}
+use Rattle.rig.specs.declared.Bench.{Bench}
 use Rattle.rig.specs.declared.Played.{Played}
-use Rattle.rig.proofs.Playing.{Leads, leads_again}
-use Rattle.rig.proofs.Ways.{offer_does}
 
--- a queue with what was stored
-abbrev with : RecordQueue → Place → FlightRecord → RecordQueue
-with q place stored = record_queue (set q.slots place.at stored) q.first place.held
+-- what a row says, where it says something
+pub says_it : (r : Option Code.Operation) (o : Code.Operation) (row : List ℕ) → IfSome r (λ o. (said o ≡ operation_in row) × Fitting o) → r ≡ Some o
+    → said o ≡ operation_in row
+says_it r o row h e = let k = subst (λ (x : Option Code.Operation). IfSome x (λ o. (said o ≡ operation_in row) × Fitting o)) e h in k.0
 
-module _ (w : LogWriter) (q : RecordQueue) (r before stored : FlightRecord) (place : Place) (ep : place ≡ place_behind q.first q.held)
-    (eb : before ≡ slot_at q.slots place.at) (es : stored ≡ kept_or_offered place.refused before r) where
-  abbrev told : Played
-  told = playing w (with q place stored) place.refused 0 0 0
+-- ---- an offered record that is stored where the queue stands
 
-  pub stored_keeps : SoundBench (bench w q) → SoundBench (bench w (with q place stored))
-  stored_keeps s =
+module _ (w : LogWriter) (q : RecordQueue) (r : FlightRecord) (u : RecordQueue) (n : ℕ) where
+  pub stored : (at : ℕ) → gives at ≡ place_behind q.first q.held → u ≡ record_queue (set q.slots at r) q.first (q.held + 1) → n ≡ 0
+      → playing w u n 0 0 0 ≡ offering w (offered q r)
+  stored at e eu en = (λ k. playing w (eu k) (en k) 0 0 0) ∙ ap (offering w) (offer_placed q r at e)
+
+  pub full : (number fault : ℕ) → refuses number fault ≡ place_behind q.first q.held → u ≡ q → n ≡ number
+      → playing w u n 0 0 0 ≡ offering w (offered q r)
+  full number fault e eu en =
+      let f = offer_refused q r number fault e in
+      (λ k. playing w (eu k) ((en ∙ f.0) k) 0 0 0) ∙ ap (offering w) f.1
+
+-- ---- a call without a report
+
+-- no page written, no record dropped and no fault
+abbrev None : DrainReport → Type 0
+None d = (d.pages_written ≡ 0) × ((d.records_dropped ≡ 0) × (d.write_faults ≡ 0))
+
+abbrev told : Bench → ℕ → DrainReport → Played
+told b n d = record { bench = b; outcome = n; report = d }
+
+pub quiet : (b : Bench) (n : ℕ) (x : Played) (d : DrainReport) → x ≡ told b n d → None d → x ≡ playing b.writer b.queue n 0 0 0
+quiet b n x d ex z = ex ∙ (λ k. told b n (drain_report (z.0 k) (z.1.0 k) (z.1.1 k)))
+
+-- ---- arm by arm
+
+module _ (c : ℕ) (image : List ℕ) (b : Bench) (o : Code.Operation) (image' : List ℕ) (x : Played) where
+  -- what was left is what the operation of the row does
+  pub record Does : Type 0 where
+    pub bench : x ≡ played c (said o) b image
+    pub picture : image' ≡ image_after c (said o) b image
+
+  does : (y : Code.Operation) → o ≡ y → x ≡ played c (said y) b image → image' ≡ image_after c (said y) b image → Does
+  does y e ex em =
       record {
-        writer = s.writer;
-        queue = subst (λ (a : OfferAnswer). SoundQueue a.queue) (sym (offers_there q r before stored place ep eb es)) (offer_keeps q r s.queue);
+        bench = ex ∙ ap (λ (z : Code.Operation). played c (said z) b image) (sym e);
+        picture = em ∙ ap (λ (z : Code.Operation). image_after c (said z) b image) (sym e);
       }
 
-  module _ (p : Played) (e : p ≡ told) where
-    pub offer_told : SoundBench (bench w q) → SoundBench p.bench
-    offer_told s = subst (λ (x : Played). SoundBench x.bench) (sym e) (stored_keeps s)
+  pub offer_does : (r : FlightRecord) (p : Played) (before d : DrainReport) (u : RecordQueue) (n : ℕ) → o ≡ Offer r → x ≡ told p.bench p.outcome d
+      → None d → p ≡ told (bench b.writer u) n before → playing b.writer u n 0 0 0 ≡ offering b.writer (offered b.queue r) → image' ≡ image → Does
+  unfolding played image_after
+  offer_does r p before d u n e ex z ep h em =
+      does (Offer r) e (quiet p.bench p.outcome x d ex z ∙ ap (λ (y : Played). playing y.bench.writer y.bench.queue y.outcome 0 0 0) ep ∙ h) em
 
-    module _ (c : ℕ) (script image₀ image : List ℕ) (i y : ℕ) where
-      abbrev row : List ℕ
-      row = take (i * 288 + 288 - i * 288) (drop (i * 288) script)
+  pub drain_does : (order : DrainOrder) (keep : Bor (List ℕ)) (p : Played) → o ≡ Drain order keep → x ≡ p
+      → p ≡ played c (drains order keep.now) b image → image' ≡ image_after c (drains order keep.now) b image → Does
+  drain_does order keep p e ex ep em = does (Drain order keep) e (ex ∙ ep) em
 
-      pub offer_leads : (output output' : List ℕ) → y ≡ get_or row 2 0 → y ≡ 0 → r ≡ record_of (part 32 48 row) → i < rows_in script
-          → length output ≡ rows_in script * 40 → output' ≡ placed output (i * 40) (tells_of p) → Leads c script image₀ (bench w q) image output i
-          → Leads c script image₀ (bench w (with q place stored)) image output' (i + 1)
-      offer_leads output output' ey offers er h n eo l =
-          let does =
-          offer_does c row image (bench w q) y ey told offers
-          (ap (offering w) (offers_there q r before stored place ep eb es ∙ ap (offered q) er))
-          in
-          leads_again c script image₀ (bench w q) image output i h told image (tells_of told) output' n does.returned does.left refl
-          (eo ∙ ap (λ (x : Played). placed output (i * 40) (tells_of x)) e) l
+  pub write_does : (succeed : ℕ) (next : NextProgram) (keep : Bor (List ℕ)) (p : Played) → o ≡ Write succeed next keep → x ≡ p
+      → p ≡ played c (writes succeed next keep.now) b image → image' ≡ image_after c (writes succeed next keep.now) b image → Does
+  write_does succeed next keep p e ex ep em = does (Write succeed next keep) e (ex ∙ ep) em
+
+  pub power_does : (p : Played) → o ≡ Power → x ≡ p → p ≡ powering (scanned c image (no_faults c)) → image' ≡ image → Does
+  unfolding played image_after
+  power_does p e ex ep em = does Power e (ex ∙ ep) em
+
+  module _ (v : LogWriter) (n : ℕ) (d : DrainReport) (ex : x ≡ told (bench v b.queue) n d) (z : None d) (em : image' ≡ image) where
+    pub recover_does : (page flight : ℕ) (writable : Bool) → o ≡ Recover page flight writable → v ≡ recovered b.writer page flight writable → n ≡ 0
+        → Does
+    unfolding played image_after
+    recover_does page flight writable e ev en =
+        does (Recover page flight writable) e (quiet (bench v b.queue) n x d ex z ∙ (λ k. playing (ev k) b.queue (en k) 0 0 0)) em
+
+    pub reset_does : o ≡ Reset → v ≡ recovered b.writer 0 1 true → n ≡ 0 → Does
+    unfolding played image_after
+    reset_does e ev en = does Reset e (quiet (bench v b.queue) n x d ex z ∙ (λ k. playing (ev k) b.queue (en k) 0 0 0)) em
+
+    pub flush_does : (buffered : Bool) (clock : ℕ) (a : FlushAnswer) → o ≡ Flush buffered clock → a ≡ flushed b.writer buffered clock → v ≡ a.writer
+        → n ≡ bool_byte a.flush → Does
+    unfolding played image_after
+    flush_does buffered clock a e ea ev en =
+        does (Flush buffered clock) e
+        (quiet (bench v b.queue) n x d ex z ∙ (λ k. playing (ev k) b.queue ((en ∙ flag_as a.flush) k) 0 0 0)
+        ∙ ap (λ (y : FlushAnswer). playing y.writer b.queue (flag_byte y.flush) 0 0 0) ea) em
+      where
+        flag_as : (f : Bool) → bool_byte f ≡ flag_byte f
+        flag_as true = refl
+        flag_as false = refl

@@ -1,9 +1,9 @@
 -- The rig: plays a script on an image, from power-on to power-off, and after each call tells its outcome, its report and the writer's
 -- visible state. Document 01, "Writer and store".
-use Rattle.std.specs.Prelude.{ℕ, ◌*◌, true, cond, List, [], ◌∷◌, ◌++◌, eqb, length}
-use Rattle.std.proofs.Math.Option.{Option, none, some}
+use Rattle.std.specs.Prelude.{ℕ, ◌*◌, true, List, [], ◌∷◌, ◌++◌, eqb, length}
+use Rattle.std.specs.Prelude.{Option, None, Some}
 use Rattle.laws.specs.Refusals.{bad_length}
-use Rattle.laws.specs.Answers.{Answer, gives, refuses, must}
+use Rattle.laws.specs.Answers.{Answer, gives, refuses, must, told}
 use Rattle.words.specs.Words.{le_bytes}
 use Rattle.store.specs.Store.{no_faults, on_image, leaves}
 use Rattle.records.specs.Scan.{scanned}
@@ -11,14 +11,14 @@ use Rattle.records.specs.declared.Scan.{Scan}
 use Rattle.assembler.specs.Assembler.{unfinished_flight}
 use Rattle.queue.specs.Queue.{empty, offered}
 use Rattle.queue.specs.declared.RecordQueue.{RecordQueue}
-use Rattle.queue.specs.declared.OfferAnswer.{OfferAnswer}
-use Rattle.log_state.specs.Writer.{fresh, recovered}
+use Rattle.queue.specs.declared.Offered.{Offered}
+use Rattle.log_state.specs.Writer.{fresh, has_pending, recovered}
 use Rattle.log_state.specs.Flush.{flushed}
 use Rattle.log_state.specs.declared.LogWriter.{LogWriter}
 use Rattle.log_state.specs.declared.FlushAnswer.{FlushAnswer}
-use Rattle.log_writer.specs.Calls.{drained, after_drain, page_written, after_write}
-use Rattle.log_writer.specs.declared.DrainAnswer.{DrainAnswer}
-use Rattle.log_writer.specs.declared.WriteAnswer.{WriteAnswer}
+use Rattle.log_writer.specs.Pass.{drain_report}
+use Rattle.log_writer.specs.Calls.{DrainTold, drained, after_drain, WriteTold, page_written, after_write}
+use Rattle.log_writer.specs.declared.DrainReport.{DrainReport}
 use Rattle.log_writer.specs.declared.PageWrite.{PageWrite}
 use Rattle.log_writer.specs.declared.PageWrite.TheVariants.{Nothing, Written, RegionFull, ProgramFailed, PowerCut}
 use Rattle.script.specs.Script.{Operation, offers, drains, writes, powers, recovers, resets, flushes, flag_byte, is_script, rows_in}
@@ -39,17 +39,25 @@ unpowered = bench fresh empty
 -- what a call left on the bench, its outcome and its report
 abbrev pub playing : LogWriter → RecordQueue → ℕ → ℕ → ℕ → ℕ → Played
 playing w q outcome pages dropped faults =
-    record { bench = bench w q; outcome = outcome; pages_written = pages; records_dropped = dropped; write_faults = faults }
+    record { bench = bench w q; outcome = outcome; report = drain_report pages dropped faults }
+
+-- the number of a refusal, 0 where there is none
+abbrev pub refusal_number : {A : Type 0} → Answer A → ℕ
+refusal_number (gives a) = 0
+refusal_number (refuses number fault) = number
 
 -- an offer's outcome is its refusal, 0 or 16
-abbrev pub offering : LogWriter → OfferAnswer → Played
-offering w answer = playing w answer.queue answer.refused 0 0 0
+abbrev pub offering : LogWriter → Offered → Played
+offering w answer = playing w answer.queue (refusal_number (told answer.answer)) 0 0 0
 
--- a drain's is 1 if the power was cut
-abbrev pub draining : DrainAnswer → Played
-draining answer =
-    playing answer.writer answer.queue (flag_byte answer.cut) answer.report.pages_written answer.report.records_dropped
-    answer.report.write_faults
+-- the report of a drain; one that was refused counted nothing
+abbrev pub report_of : Answer DrainReport → DrainReport
+report_of (gives r) = r
+report_of (refuses number fault) = drain_report 0 0 0
+
+-- a drain's outcome is 1 if the power was cut
+abbrev pub draining : DrainTold → Played
+draining answer = record { bench = bench answer.writer answer.queue; outcome = flag_byte answer.cut; report = report_of answer.report }
 
 -- Nothing, Written, RegionFull, ProgramFailed, or the power was cut
 abbrev pub outcome_of : PageWrite → ℕ
@@ -59,8 +67,13 @@ outcome_of RegionFull = 2
 outcome_of ProgramFailed = 3
 outcome_of PowerCut = 4
 
-abbrev pub writing : WriteAnswer → Played
-writing answer = playing answer.writer answer.queue (outcome_of answer.outcome) 0 0 0
+-- one that was refused did nothing
+abbrev pub outcome_told : Answer PageWrite → ℕ
+outcome_told (gives o) = outcome_of o
+outcome_told (refuses number fault) = outcome_of Nothing
+
+abbrev pub writing : WriteTold → Played
+writing answer = playing answer.writer answer.queue (outcome_told answer.outcome) 0 0 0
 
 -- "each with a fresh writer set by one scan alone"; a scan that is refused leaves the fresh writer, and its number is the outcome
 abbrev pub powering : Answer Scan → Played
@@ -95,27 +108,27 @@ image_after capacity (flushes buffered clock) b image = image
 
 -- a flag and a number, for an Option
 abbrev pub is_there : Option ℕ → ℕ
-is_there none = 0
-is_there (some n) = 1
+is_there None = 0
+is_there (Some n) = 1
 
 abbrev pub number_or0 : Option ℕ → ℕ
-number_or0 none = 0
-number_or0 (some n) = n
+number_or0 None = 0
+number_or0 (Some n) = n
 
 -- the flush's start time, if there is one
 abbrev pub since : LogWriter → Option ℕ
-since w = cond w.has_write_back_since (some w.write_back_since_ms) none
+since w = w.write_back_since_ms
 
 -- outcome, writable, recording, unfinished (flag), flush start (flag), queue length; pages_written, records_dropped, write_faults;
 -- next page, next flight, unfinished flight, flush start
 unfoldable pub tells_of : Played → List ℕ
 tells_of p =
     p.outcome ∷ flag_byte p.bench.writer.writable ∷ flag_byte p.bench.writer.assembler.recording
-    ∷ is_there (unfinished_flight p.bench.writer.assembler p.bench.writer.has_pending) ∷ is_there (since p.bench.writer)
+    ∷ is_there (unfinished_flight p.bench.writer.assembler (has_pending p.bench.writer)) ∷ is_there (since p.bench.writer)
     ∷ p.bench.queue.held ∷ 0 ∷ 0
-    ∷ (le_bytes 4 p.pages_written ++ (le_bytes 4 p.records_dropped ++ (le_bytes 4 p.write_faults
+    ∷ (le_bytes 4 p.report.pages_written ++ (le_bytes 4 p.report.records_dropped ++ (le_bytes 4 p.report.write_faults
     ++ (le_bytes 4 p.bench.writer.next_page ++ (le_bytes 4 p.bench.writer.next_flight
-    ++ (le_bytes 4 (number_or0 (unfinished_flight p.bench.writer.assembler p.bench.writer.has_pending))
+    ++ (le_bytes 4 (number_or0 (unfinished_flight p.bench.writer.assembler (has_pending p.bench.writer)))
     ++ le_bytes 8 (number_or0 (since p.bench.writer))))))))
 
 -- ---- a script

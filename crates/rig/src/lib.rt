@@ -4,28 +4,23 @@
 // A caller can rely on it that what is done to the image is exactly what the script says, call by call.
 #![tactic(auto)]
 
-ghost use Rattle.std.specs.Prelude.{◌+◌, ◌*◌, ◌^◌, ◌<◌, ◌≡◌, true, ◌++◌, length, get_or};
-ghost use Rattle.words.specs.Words.{le_bytes, u32_at, placed};
-ghost use Rattle.laws.specs.Answers.{told_done};
+ghost use Rattle.std.specs.Prelude.{◌*◌, ◌^◌, ◌<◌, ◌≡◌, length};
+ghost use Rattle.words.specs.Words.{placed};
+ghost use Rattle.laws.specs.Answers.{told};
 ghost use Rattle.store.specs.Store.{no_faults};
-ghost use Rattle.records.specs.Scan.{told_scan, scanned};
-ghost use Rattle.assembler.specs.Assembler.{told_unfinished};
-ghost use Rattle.queue.specs.Queue.{offered};
-ghost use Rattle.log_state.specs.Writer.{recovered};
-ghost use Rattle.log_state.specs.Flush.{flushed};
-ghost use Rattle.script.specs.Script.{flag_at, offered_in, operation_in, operations, rows_in};
-ghost use Rattle.rig.specs.Rig.{unpowered, playing, draining, writing, outcome_of, powering, flushing, played};
-ghost use Rattle.rig.specs.Rig.{image_after, is_there, number_or0, since};
+ghost use Rattle.records.specs.Scan.{scanned};
+ghost use Rattle.script.specs.Script.{drains, writes, operations, rows_in};
+ghost use Rattle.rig.specs.Rig.{unpowered, playing, powering, played, image_after};
 ghost use Rattle.rig.specs.Rig.{tells_of, plays_image, tells, play_told, after_play, output_after};
 ghost use Rattle.rig.specs.Laws.{SoundBench};
 
-use assembler::UnfinishedFlight;
-use blackbox::FlightRecord;
-use laws::DoneAnswer;
+use laws::Refusal;
 use log_state::LogWriter;
-use log_writer::{DrainAnswer, PageWrite, WriteAnswer};
+use log_writer::{DrainOrder, DrainReport, NextProgram, PageWrite};
 use queue::RecordQueue;
-use records::ScanAnswer;
+use records::Scan;
+use script::Operation;
+use store::Flash;
 
 pub const TELL_LEN: usize = 40;
 
@@ -41,331 +36,219 @@ pub struct Bench {
 pub struct Played {
     pub bench: Bench,
     pub outcome: u8,
-    pub pages_written: u32,
-    pub records_dropped: u32,
-    pub write_faults: u32,
-}
-
-// Before the first power-on.
-fn unpowered_bench() -> Bench
-    ensures { result ≡ unpowered }
-{
-    let writer = LogWriter::new();
-    let queue = RecordQueue::new();
-    Bench { writer, queue }
+    pub report: DrainReport,
 }
 
 // A call without a report.
 fn unreported(writer: LogWriter, queue: RecordQueue, outcome: u8) -> Played
     ensures { result ≡ playing writer queue outcome 0 0 0 }
 {
-    let bench = Bench { writer, queue };
     Played {
-        bench,
+        bench: Bench { writer, queue },
         outcome,
-        pages_written: 0,
-        records_dropped: 0,
-        write_faults: 0,
+        report: DrainReport::default(),
     }
 }
 
-// The record that a row offers.
-fn offered_record(row: &[u8]) -> FlightRecord
-    requires { length row.now ≡ 288 }
-    ensures { result ≡ offered_in row.now }
+// A drain's outcome is 1 if the power was cut. What was played before is lent, here and below, and laid over, so that the frame of the
+// rows has one place for it and no other.
+#[tactic(auto, unfolding(crate::specs::Rig::played, crate::specs::Rig::image_after))]
+fn drain(done: &mut Played, capacity_bytes: u32, image: &mut [u8], order: DrainOrder, keep: &[u8])
+    requires { SoundBench done.old.bench }
+    ensures value { done.new ≡ played capacity_bytes (drains order keep.now) done.old.bench image.old }
+    ensures lent { image.new ≡ image_after capacity_bytes (drains order keep.now) done.old.bench image.old }
 {
-    let answer = FlightRecord::decode(&row[32..80]);
-    answer.record
-}
-
-// A drain with the order and the mask of a row.
-fn drain(bench: Bench, capacity_bytes: u32, image: &mut [u8], row: &[u8]) -> Played
-    requires { SoundBench bench × (length row.now ≡ 288) × (get_or row.now 2 0 ≡ 1) }
-    ensures value { result ≡ played capacity_bytes (operation_in row.now) bench image.old }
-    ensures lent { image.new ≡ image_after capacity_bytes (operation_in row.now) bench image.old }
-{
-    let writer = bench.writer;
-    let queue = bench.queue;
-    let order = script::order_in(row);
-    let answer = log_writer::drain(writer, queue, capacity_bytes, image, &row[32..288], order);
-    drain_told(answer)
-}
-
-// A drain's outcome is 1 if the power was cut.
-fn drain_told(answer: DrainAnswer) -> Played
-    ensures { result ≡ draining answer }
-{
-    let writer = answer.writer;
-    let queue = answer.queue;
-    let report = answer.report;
-    let bench = Bench { writer, queue };
-    let outcome = script::flag_byte(answer.cut);
-    Played {
-        bench,
-        outcome,
-        pages_written: report.pages_written,
-        records_dropped: report.records_dropped,
-        write_faults: report.write_faults,
-    }
-}
-
-fn outcome_byte(outcome: PageWrite) -> u8
-    ensures { result ≡ outcome_of outcome }
-{
-    match outcome {
-        PageWrite::Nothing => 0,
-        PageWrite::Written => 1,
-        PageWrite::RegionFull => 2,
-        PageWrite::ProgramFailed => 3,
-        PageWrite::PowerCut => 4,
-    }
-}
-
-// A write_pending with the numbers and the mask of a row.
-fn write(bench: Bench, capacity_bytes: u32, image: &mut [u8], row: &[u8]) -> Played
-    requires { SoundBench bench × (length row.now ≡ 288) × (get_or row.now 2 0 ≡ 2) }
-    ensures value { result ≡ played capacity_bytes (operation_in row.now) bench image.old }
-    ensures lent { image.new ≡ image_after capacity_bytes (operation_in row.now) bench image.old }
-{
-    let writer = bench.writer;
-    let queue = bench.queue;
-    let succeed = words::u32_at(row, 12);
-    let next = script::next_in(words::byte_at(row, 3));
-    let answer = log_writer::write_pending(
-        writer,
-        queue,
+    let answer = log_writer::drain(
+        done.bench.writer,
+        done.bench.queue,
         capacity_bytes,
         image,
-        &row[32..288],
+        keep,
+        order,
+    );
+    done.bench.writer = answer.writer;
+    done.bench.queue = answer.queue;
+    done.outcome = u8::from(answer.cut);
+    done.report = answer.report.unwrap_or_default();
+}
+
+// A write_pending's outcome by its number; one that was refused did nothing.
+#[tactic(auto, unfolding(crate::specs::Rig::played, crate::specs::Rig::image_after))]
+fn write(
+    done: &mut Played,
+    capacity_bytes: u32,
+    image: &mut [u8],
+    succeed: u32,
+    next: NextProgram,
+    keep: &[u8],
+)
+    requires { SoundBench done.old.bench }
+    ensures value { done.new ≡ played capacity_bytes (writes succeed next keep.now) done.old.bench image.old }
+    ensures lent { image.new ≡ image_after capacity_bytes (writes succeed next keep.now) done.old.bench image.old }
+{
+    let answer = log_writer::write_pending(
+        done.bench.writer,
+        done.bench.queue,
+        capacity_bytes,
+        image,
+        keep,
         succeed,
         next,
     );
-    write_told(answer)
-}
-
-fn write_told(answer: WriteAnswer) -> Played
-    ensures { result ≡ writing answer }
-{
-    let writer = answer.writer;
-    let queue = answer.queue;
-    let outcome = answer.outcome;
-    unreported(writer, queue, outcome_byte(outcome))
+    done.bench.writer = answer.writer;
+    done.bench.queue = answer.queue;
+    done.outcome = answer.outcome.unwrap_or(PageWrite::Nothing) as u8;
+    done.report = DrainReport::default();
 }
 
 // A scan without faults. A fault byte that isn't there reads as 0, so none is lent.
-fn scan(capacity_bytes: u32, image: &[u8]) -> ScanAnswer
-    ensures { told_scan result ≡ scanned capacity_bytes image.now (no_faults capacity_bytes) }
+#[tactic(auto, using(laws::proofs::Chain::chain, crate::proofs::Ways::scan_refused, crate::proofs::Ways::scan_made))]
+fn scan(capacity_bytes: u32, image: &[u8]) -> Result<Scan, Refusal>
+    ensures { told result ≡ scanned capacity_bytes image.now (no_faults capacity_bytes) }
 {
-    match store::checked_image(capacity_bytes, image.len()) {
-        DoneAnswer::Refused(refusal) => ScanAnswer::Refused(refusal),
-        DoneAnswer::Done => records::scan_pages(
-            layout::page_count(capacity_bytes),
-            image,
-            &image[0..0],
-        ),
-    }
+    store::checked_image(capacity_bytes, image.len())?;
+    let flash = Flash {
+        capacity_bytes,
+        image,
+        faults: &image[0..0],
+    };
+    records::scan_pages(layout::page_count(capacity_bytes), &flash)
 }
 
 // Power comes on: a fresh writer set by one scan alone, and an empty queue.
-fn power_on(capacity_bytes: u32, image: &[u8]) -> Played
-    ensures { result ≡ powering (scanned capacity_bytes image.now (no_faults capacity_bytes)) }
+fn power_on(done: &mut Played, capacity_bytes: u32, image: &[u8])
+    ensures { done.new ≡ powering (scanned capacity_bytes image.now (no_faults capacity_bytes)) }
 {
     let fresh = LogWriter::new();
-    let queue = RecordQueue::new();
+    done.bench.queue = RecordQueue::new();
+    done.report = DrainReport::default();
     match scan(capacity_bytes, image) {
-        ScanAnswer::Refused(refusal) => unreported(fresh, queue, refusal.number),
-        ScanAnswer::Scanned(found) => {
-            let writer = fresh.recover(found.next_page, found.next_flight, found.writable);
-            unreported(writer, queue, 0)
+        Ok(found) => {
+            done.bench.writer = fresh.recover(found.next_page, found.next_flight, found.writable);
+            done.outcome = 0;
+        }
+        Err(refusal) => {
+            done.bench.writer = fresh;
+            done.outcome = refusal.number();
         }
     }
 }
 
-// recover with the numbers of a row.
-fn recover(bench: Bench, row: &[u8]) -> Played
-    ensures { result ≡ playing (recovered bench.writer (u32_at row.now 8) (u32_at row.now 12) (flag_at row.now 6)) bench.queue 0 0 0 0 }
-{
-    let page = words::u32_at(row, 8);
-    let flight = words::u32_at(row, 12);
-    let writable = script::flag_at(row, 6);
-    let before = bench.writer;
-    let writer = before.recover(page, flight, writable);
-    let queue = bench.queue;
-    unreported(writer, queue, 0)
-}
-
-fn reset(bench: Bench) -> Played
-    ensures { result ≡ playing (recovered bench.writer 0 1 true) bench.queue 0 0 0 0 }
-{
-    let before = bench.writer;
-    let writer = before.reset_after_erase();
-    let queue = bench.queue;
-    unreported(writer, queue, 0)
-}
-
-// flush_write_back with the flag and the clock of a row.
-fn flush(bench: Bench, row: &[u8]) -> Played
-    ensures { result ≡ flushing bench.queue (flushed bench.writer (flag_at row.now 6) (u32_at row.now 8 + 2 ^ 32 * u32_at row.now 12)) }
-{
-    let buffered = script::flag_at(row, 6);
-    let low = words::u32_at(row, 8) as u64;
-    let high = words::u32_at(row, 12) as u64;
-    let before = bench.writer;
-    let answer = before.flush_write_back(buffered, low + 4294967296 * high);
-    let writer = answer.writer;
-    let queue = bench.queue;
-    unreported(writer, queue, script::flag_byte(answer.flush))
-}
-
-// What the operation of a row does, if it is no offer.
-fn step(bench: Bench, capacity_bytes: u32, image: &mut [u8], row: &[u8]) -> Played
-    requires { SoundBench bench × (length row.now ≡ 288) × (get_or row.now 2 0 ≡ 0 → ⊥) }
-    ensures value { result ≡ played capacity_bytes (operation_in row.now) bench image.old }
-    ensures lent { image.new ≡ image_after capacity_bytes (operation_in row.now) bench image.old }
-{
-    let operation = words::byte_at(row, 2);
-    if operation == 1 {
-        return drain(bench, capacity_bytes, image, row);
-    }
-    if operation == 2 {
-        return write(bench, capacity_bytes, image, row);
-    }
-    if operation == 3 {
-        return power_on(capacity_bytes, image);
-    }
-    if operation == 4 {
-        return recover(bench, row);
-    }
-    if operation == 5 {
-        return reset(bench);
-    }
-    flush(bench, row)
-}
-
-fn is_there(flight: UnfinishedFlight) -> u8
-    ensures { result ≡ is_there (told_unfinished flight) }
-{
-    match flight {
-        UnfinishedFlight::Flight(_) => 1,
-        UnfinishedFlight::Nothing => 0,
-    }
-}
-
-fn number_or_0(flight: UnfinishedFlight) -> u32
-    ensures { result ≡ number_or0 (told_unfinished flight) }
-{
-    match flight {
-        UnfinishedFlight::Flight(number) => number,
-        UnfinishedFlight::Nothing => 0,
-    }
-}
-
-// The flush's start time, 0 where there is none.
-fn since_or_0(writer: LogWriter) -> u64
-    ensures { result ≡ number_or0 (since writer) }
-{
-    if writer.has_write_back_since {
-        return writer.write_back_since_ms;
-    }
-    0
-}
-
 // What is told after a call.
-fn tells_of(played: Played) -> [u8; 40]
-    requires { SoundBench played.bench }
-    ensures { result ≡ tells_of played }
+fn tells_of(played: &Played) -> [u8; TELL_LEN]
+    requires { SoundBench played.now.bench }
+    ensures { result ≡ tells_of played.now }
 {
-    let bench = played.bench;
-    let writer = bench.writer;
-    let assembler = writer.assembler;
-    let queue = bench.queue;
+    let writer = &played.bench.writer;
     let unfinished = writer.unfinished_flight();
+    let since = writer.write_back_since_ms;
     let head = [
         played.outcome,
-        script::flag_byte(writer.writable),
-        script::flag_byte(assembler.recording),
-        is_there(unfinished),
-        script::flag_byte(writer.has_write_back_since),
-        queue.held as u8,
+        u8::from(writer.writable),
+        u8::from(writer.assembler.recording),
+        u8::from(unfinished.is_some()),
+        u8::from(since.is_some()),
+        played.bench.queue.held as u8,
         0,
         0,
     ];
-    let mut bytes = [0u8; 40];
+    let mut bytes = [0u8; TELL_LEN];
     let row: &mut [u8] = &mut bytes;
     words::put_bytes(row, 0, &head);
-    words::put_u32(row, 8, played.pages_written);
-    words::put_u32(row, 12, played.records_dropped);
-    words::put_u32(row, 16, played.write_faults);
-    words::put_u32(row, 20, writer.next_page);
-    words::put_u32(row, 24, writer.next_flight);
-    words::put_u32(row, 28, number_or_0(unfinished));
-    words::put_u64(row, 32, since_or_0(writer));
+    words::put(row, 8, played.report.pages_written);
+    words::put(row, 12, played.report.records_dropped);
+    words::put(row, 16, played.report.write_faults);
+    words::put(row, 20, writer.next_page);
+    words::put(row, 24, writer.next_flight);
+    words::put(row, 28, unfinished.unwrap_or(0));
+    words::put(row, 32, since.unwrap_or(0));
     bytes
 }
 
 // What is told after a call, at its row's place in the output.
-fn tell(output: &mut [u8], index: usize, played: Played)
-    requires { SoundBench played.bench × (index * 40 < 2 ^ 64) }
-    ensures { output.new ≡ placed output.old (index * 40) (tells_of played) }
+fn tell(output: &mut [u8], index: usize, played: &Played)
+    requires { SoundBench played.now.bench × (index * 40 < 2 ^ 64) }
+    ensures { output.new ≡ placed output.old (index * 40) (tells_of played.now) }
 {
-    let bytes = tells_of(played);
-    words::put_bytes(output, index * TELL_LEN, &bytes);
+    words::put_bytes(output, index * TELL_LEN, &tells_of(played));
 }
 
-// The rows of a script, one after another. An offered record is stored where the queue stands; any other row is a step.
+// The rows of a script, one after another. An offered record is stored where the queue stands, and a call that needs the writer alone
+// is handed no queue, so that no slot is copied for it.
 fn play_rows(capacity_bytes: u32, image: &mut [u8], script: &[u8], output: &mut [u8])
     requires { length output.old ≡ rows_in script.now * 40 }
     ensures image_after { image.new ≡ plays_image capacity_bytes (operations script.now) unpowered image.old }
     ensures output_after { output.new ≡ tells capacity_bytes (operations script.now) unpowered image.old }
 {
-    let rows = script.len() / script::ROW_LEN;
-    let start = unpowered_bench();
-    let mut writer = start.writer;
-    let mut queue = start.queue;
-    let mut i = 0;
-    while i < rows {
-        let a = i * script::ROW_LEN;
-        let row = &script[a..a + script::ROW_LEN];
-        if words::byte_at(row, 2) == 0 {
-            let record = offered_record(row);
-            let place = queue::place_behind(queue.first, queue.held);
-            let at = place.at;
-            let before = queue.slots[at];
-            let stored = queue::kept_or_offered(place.refused, before, record);
-            queue.slots[at] = stored;
-            queue.held = place.held;
-            tell(output, i, unreported(writer, queue, place.refused));
-            i += 1;
-            continue;
+    let mut played = unreported(LogWriter::new(), RecordQueue::new(), 0);
+    for (i, row) in script.chunks_exact(script::ROW_LEN).enumerate() {
+        match Operation::of(row).unwrap() {
+            Operation::Offer(record) => {
+                match queue::place_behind(played.bench.queue.first, played.bench.queue.held) {
+                    Ok(at) => {
+                        played.bench.queue.slots[at] = record;
+                        played.bench.queue.held += 1;
+                        played.outcome = 0;
+                    }
+                    Err(refusal) => played.outcome = refusal.number(),
+                }
+                played.report = DrainReport::default();
+            }
+            Operation::Drain(order, keep) => {
+                drain(&mut played, capacity_bytes, image, order, keep);
+            }
+            Operation::Write {
+                succeed,
+                next,
+                keep,
+            } => {
+                write(&mut played, capacity_bytes, image, succeed, next, keep);
+            }
+            Operation::Power => power_on(&mut played, capacity_bytes, image),
+            Operation::Recover {
+                page,
+                flight,
+                writable,
+            } => {
+                played.bench.writer = played.bench.writer.recover(page, flight, writable);
+                played.outcome = 0;
+                played.report = DrainReport::default();
+            }
+            Operation::Reset => {
+                played.bench.writer = played.bench.writer.reset_after_erase();
+                played.outcome = 0;
+                played.report = DrainReport::default();
+            }
+            Operation::Flush { buffered, clock } => {
+                let answer = played.bench.writer.flush_write_back(buffered, clock);
+                played.bench.writer = answer.writer;
+                played.outcome = u8::from(answer.flush);
+                played.report = DrainReport::default();
+            }
         }
-        let bench = Bench { writer, queue };
-        let played = step(bench, capacity_bytes, image, row);
-        tell(output, i, played);
-        let after = played.bench;
-        writer = after.writer;
-        queue = after.queue;
-        i += 1;
+        tell(output, i, &played);
     }
 }
 
 // Plays a script on an image and tells 40 bytes for each of its rows. A capacity is refused 5; an image that has not its length, a script
 // that is malformed and an output that has not 40 bytes for each row are refused 17.
-pub fn play(capacity_bytes: u32, image: &mut [u8], script: &[u8], output: &mut [u8]) -> DoneAnswer
-    ensures result_value { told_done result ≡ play_told capacity_bytes image.old script.now output.old }
+pub fn play(
+    capacity_bytes: u32,
+    image: &mut [u8],
+    script: &[u8],
+    output: &mut [u8],
+) -> Result<(), Refusal>
+    ensures result_value { told result ≡ play_told capacity_bytes image.old script.now output.old }
     ensures image_after { image.new ≡ after_play capacity_bytes image.old script.now output.old }
     ensures output_after { output.new ≡ output_after capacity_bytes image.old script.now output.old }
 {
-    match store::checked_image(capacity_bytes, image.len()) {
-        DoneAnswer::Refused(refusal) => DoneAnswer::Refused(refusal),
-        DoneAnswer::Done => {
-            if !script::is_script(script) {
-                return DoneAnswer::Refused(laws::refused(laws::BAD_LENGTH));
-            }
-            if output.len() != script.len() / script::ROW_LEN * TELL_LEN {
-                return DoneAnswer::Refused(laws::refused(laws::BAD_LENGTH));
-            }
-            play_rows(capacity_bytes, image, script, output);
-            DoneAnswer::Done
-        }
+    store::checked_image(capacity_bytes, image.len())?;
+    if !script::is_script(script) {
+        return Err(Refusal::BadLength);
     }
+    if output.len() != script.len() / script::ROW_LEN * TELL_LEN {
+        return Err(Refusal::BadLength);
+    }
+    play_rows(capacity_bytes, image, script, output);
+    Ok(())
 }

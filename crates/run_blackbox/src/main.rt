@@ -2,20 +2,15 @@
 // stdout beside src/ has what must come out.
 #![tactic(auto)]
 
-use blackbox::{FlightRecord, PageAnswer};
-
-fn say(name: &[u8], n: u64) {
-    io::write_all(1, name);
-    io::write_all(1, b" ");
-    io::print_decimal(1, n);
-    io::write_all(1, b"\n");
-}
+use blackbox::{FLASH_PAGE_LEN, FlightRecord, RECORD_LEN, RECORDS_PER_PAGE};
+use laws::Refusal;
+use std::io;
 
 // A record with a negative number, and the largest and smallest, in its signed fields.
 fn sample(k: u16) -> FlightRecord {
     FlightRecord {
         timestamp_us: 4294967295,
-        control_sequence: k as u32,
+        control_sequence: u32::from(k),
         imu_sequence: 65536,
         flags: 3,
         raw_gyro_dps10: [-1, 32767, -32768],
@@ -27,150 +22,115 @@ fn sample(k: u16) -> FlightRecord {
     }
 }
 
-fn samples() -> [FlightRecord; 5] {
-    let a = sample(1);
-    let b = sample(2);
-    let c = sample(3);
-    let d = sample(4);
-    let e = sample(65535);
-    [a, b, c, d, e]
+fn samples() -> [FlightRecord; RECORDS_PER_PAGE] {
+    [1, 2, 3, 4, 65535].map(sample)
 }
 
-// 0 where a page decodes, else the number it is refused by.
-fn number_of(page: &[u8]) -> u8 {
-    match blackbox::decode_page(page) {
-        PageAnswer::Decoded(_) => 0,
-        PageAnswer::Refused(refusal) => refusal.number,
+// 0 where nothing is refused, else the number that it is refused by.
+fn number_of<T: Drop>(answer: Result<T, Refusal>) -> u8 {
+    match answer {
+        Ok(_) => 0,
+        Err(refusal) => refusal.number(),
     }
 }
 
-fn one_bit(k: usize) -> u8 {
-    match k {
-        0 => 1,
-        1 => 2,
-        2 => 4,
-        3 => 8,
-        4 => 16,
-        5 => 32,
-        6 => 64,
-        _ => 128,
-    }
+fn say_page(rt: &impl Print, name: &str, page: &[u8]) -> io::Result<()> {
+    println!(rt; "{name} {}", number_of(blackbox::decode_page(page)))
 }
 
-fn flip(page: &mut [u8], bit: usize) {
-    let at = bit / 8;
-    if at < page.len() {
-        page[at] = page[at] ^ one_bit(bit % 8);
+fn flip(page: &mut [u8; FLASH_PAGE_LEN], bit: u16) {
+    let at = usize::from(bit / 8);
+    if at < FLASH_PAGE_LEN {
+        page[at] ^= 1 << (bit % 8);
     }
 }
 
 // The number that a page of five records with one bit flipped must be refused by, in the order 2, 3, 1, 4: a flip of bit 0
 // or 2 of the count leaves a count of at most five, so the checksum refuses it.
-fn expected(bit: usize) -> u8 {
-    match bit / 8 {
-        240 | 241 => 2,
-        242 => 3,
-        243 => match bit % 8 {
-            0 | 2 => 4,
-            _ => 1,
-        },
+fn expected(bit: u16) -> u8 {
+    match (bit / 8, bit % 8) {
+        (240 | 241, _) => 2,
+        (242, _) => 3,
+        (243, 0 | 2) => 4,
+        (243, _) => 1,
         _ => 4,
     }
 }
 
 // How many of the 2,048 single-bit damages of a page are refused as document 01 orders; each is undone.
-fn refused_damages(page: &mut [u8]) -> u64 {
-    let mut refused: u64 = 0;
-    for bit in 0usize..2048 {
+fn refused_damages(page: &mut [u8; FLASH_PAGE_LEN]) -> u16 {
+    let mut refused: u16 = 0;
+    for bit in 0..2048u16 {
         flip(page, bit);
-        let number = number_of(page);
+        let number = number_of(blackbox::decode_page(page.as_slice()));
         flip(page, bit);
-        if number == expected(bit) {
-            refused = std::num::wrapping_add_u64(refused, 1);
-        }
+        refused = refused.wrapping_add(u16::from(number == expected(bit)));
     }
     refused
 }
 
-fn check_damages(page: &mut [u8]) {
-    say(
-        b"single-bit damages of 2048 refused as document 01 orders",
-        refused_damages(page),
-    );
-    say(b"undamaged again, refused by", number_of(page) as u64);
+fn check_damages(rt: &impl Print, page: &mut [u8; FLASH_PAGE_LEN]) -> io::Result<()> {
+    let refused = refused_damages(page);
+    println!(rt; "single-bit damages of 2048 refused as document 01 orders {refused}")?;
+    say_page(rt, "undamaged again, refused by", page)
+}
+
+fn record_at(page: &[u8], index: usize) -> FlightRecord {
+    blackbox::record_from_page(page, index).unwrap_or_default()
 }
 
 // Whether the page that the first three records of a page make is that page.
-fn comes_back(page: &[u8]) -> u64 {
-    let a = blackbox::record_from_page(page, 0).record;
-    let b = blackbox::record_from_page(page, 1).record;
-    let c = blackbox::record_from_page(page, 2).record;
-    let again = blackbox::encode_page(7, 0, [a, b, c, c, c], 3).page;
-    if words::same_bytes(page, &again) {
-        1
-    } else {
-        0
-    }
+fn comes_back(page: &[u8; FLASH_PAGE_LEN]) -> bool {
+    let [a, b, c] = [0, 1, 2].map(|index| record_at(page, index));
+    blackbox::encode_page(7, 0, [a, b, c, c, c], 3) == Ok(*page)
+}
+
+fn say_comes_back(rt: &impl Print, page: &[u8; FLASH_PAGE_LEN]) -> io::Result<()> {
+    println!(rt; "comes back {}", u8::from(comes_back(page)))
 }
 
 // A page with its checksum made anew.
-fn reseal(page: &mut [u8]) {
-    if page.len() == 256 {
-        let crc = words::u32_bytes(crc32::crc32(&page[0..252]));
-        words::put_bytes(page, 252, &crc);
-    }
+fn reseal(page: &mut [u8; FLASH_PAGE_LEN]) {
+    let crc = crc32::crc32(&page[..252]).to_le_bytes();
+    page[252..].copy_from_slice(&crc);
 }
 
-fn check_slots() {
-    let mut page = blackbox::encode_page(7, 0, samples(), 3).page;
-    say(b"three records, refused by", number_of(&page) as u64);
-    say(b"comes back", comes_back(&page));
+fn check_slots(rt: &impl Print, mut page: [u8; FLASH_PAGE_LEN]) -> io::Result<()> {
+    say_page(rt, "three records, refused by", &page)?;
+    say_comes_back(rt, &page)?;
     page[200] = 0;
-    say(
-        b"an unused byte changed, refused by",
-        number_of(&page) as u64,
-    );
+    say_page(rt, "an unused byte changed, refused by", &page)?;
     reseal(&mut page);
-    say(
-        b"and the checksum made anew, refused by",
-        number_of(&page) as u64,
-    );
-    say(b"comes back", comes_back(&page));
+    say_page(rt, "and the checksum made anew, refused by", &page)?;
+    say_comes_back(rt, &page)
 }
 
-fn check_lengths(page: &[u8]) {
-    if page.len() == 256 {
-        say(
-            b"a sixth record read, refused by",
-            blackbox::record_from_page(page, 5).refused as u64,
-        );
-        say(
-            b"the fifth record's throttle",
-            blackbox::record_from_page(page, 4).record.throttle as u64,
-        );
-        say(b"255 bytes, refused by", number_of(&page[0..255]) as u64);
-        say(
-            b"a row of 47 bytes, refused by",
-            FlightRecord::decode(&page[0..47]).refused as u64,
-        );
-    }
+fn check_lengths(rt: &impl Print, page: &[u8; FLASH_PAGE_LEN]) -> io::Result<()> {
+    let sixth = number_of(blackbox::record_from_page(page, RECORDS_PER_PAGE));
+    println!(rt; "a sixth record read, refused by {sixth}")?;
+    let fifth = record_at(page, RECORDS_PER_PAGE - 1);
+    println!(rt; "the fifth record's throttle {}", fifth.throttle)?;
+    say_page(rt, "255 bytes, refused by", &page[..255])?;
+    let short = number_of(FlightRecord::decode(&page[..RECORD_LEN - 1]));
+    println!(rt; "a row of 47 bytes, refused by {short}")
 }
 
-fn check_crc32() {
-    io::write_all(1, b"crc32 of 123456789 ");
-    io::print_hex(1, crc32::crc32(b"123456789") as u64, 8);
-    io::write_all(1, b"\n");
-    say(b"crc32 of nothing", crc32::crc32(b"") as u64);
+fn check_crc32(rt: &impl Print) -> io::Result<()> {
+    println!(rt; "crc32 of 123456789 {:08x}", crc32::crc32(b"123456789"))?;
+    println!(rt; "crc32 of nothing {}", crc32::crc32(b""))
 }
 
-fn main() {
-    check_crc32();
+fn main(rt: HostRuntime) -> io::Result<()> {
+    check_crc32(&rt)?;
     let five = blackbox::encode_page(7, 0, samples(), 5);
-    say(b"five records, refused by", five.refused as u64);
+    println!(rt; "five records, refused by {}", number_of(five))?;
     let six = blackbox::encode_page(7, 0, samples(), 6);
-    say(b"six records, refused by", six.refused as u64);
-    let mut page = five.page;
-    check_lengths(&page);
-    check_damages(&mut page);
-    check_slots();
+    println!(rt; "six records, refused by {}", number_of(six))?;
+    let mut page = five.unwrap_or([0; FLASH_PAGE_LEN]);
+    check_lengths(&rt, &page)?;
+    check_damages(&rt, &mut page)?;
+    check_slots(
+        &rt,
+        blackbox::encode_page(7, 0, samples(), 3).unwrap_or([0; FLASH_PAGE_LEN]),
+    )
 }

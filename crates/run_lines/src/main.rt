@@ -2,44 +2,32 @@
 // src/ has what must come out.
 #![tactic(auto)]
 
-use log_lines::{Line, Lines};
+use laws::Refusal;
+use log_lines::Lines;
 use log_search::StoredFlight;
+use std::io;
+use std::io::Write;
 
-fn write_text(text: &[u8], len: usize) {
-    if len <= text.len() {
-        io::write_all(1, &text[0..len]);
+// A text's length and the text.
+fn show(rt: &impl Print, text: &[u8]) -> io::Result<()> {
+    println!(rt; "bytes {}", text.len())?;
+    io::writer(rt).write_all(text)
+}
+
+// An answer, or its refusal and no text.
+fn show_lines(rt: &impl Print, lines: Result<Lines, Refusal>) -> io::Result<()> {
+    match lines {
+        Ok(lines) => show(rt, lines.as_slice()),
+        Err(refusal) => {
+            println!(rt; "refused {}", refusal.number())?;
+            show(rt, b"")
+        }
     }
 }
 
-fn say(name: &[u8], n: u64) {
-    io::write_all(1, name);
-    io::print_decimal(1, n);
-    io::write_all(1, b"\n");
-}
-
-// An answer's length and its text, or its refusal and its length.
-fn show(lines: Lines) {
-    let text = lines.text;
-    let len = lines.len;
-    if lines.refused != 0 {
-        say(b"refused ", lines.refused as u64);
-    }
-    say(b"bytes ", len as u64);
-    write_text(&text, len);
-}
-
-fn show_line(line: Line) {
-    let text = line.text;
-    let len = line.len;
-    say(b"bytes ", len as u64);
-    write_text(&text, len);
-}
-
-fn show_number(n: u32) {
-    let digits = digits::decimal(n);
-    let text = digits.text;
-    write_text(&text, digits.len);
-    io::write_all(1, b"\n");
+fn show_number(rt: &impl Print, n: u32) -> io::Result<()> {
+    io::writer(rt).write_all(digits::decimal(n).as_slice())?;
+    println!(rt; "")
 }
 
 fn flight(flight_id: u32, start_page: u32, pages: u32) -> StoredFlight {
@@ -59,26 +47,23 @@ fn two() -> [StoredFlight; 8] {
 }
 
 fn largest() -> [StoredFlight; 8] {
-    let f = flight(4294967295, 4294967295, 4294967295);
-    [f, f, f, f, f, f, f, f]
+    [flight(u32::MAX, u32::MAX, u32::MAX); 8]
 }
 
-fn main() {
-    show(log_lines::unsynced_lines(two(), 0, false));
-    show(log_lines::unsynced_lines(two(), 2, false));
-    show(log_lines::unsynced_lines(largest(), 8, true));
-    show(log_lines::unsynced_lines(largest(), 9, true));
-    show_line(log_lines::flight_line(flight(10, 0, 1000000009)));
-    show_line(log_lines::ack_response(12));
-    show_line(log_lines::ack_response(13));
-    show_line(log_lines::ack_response(14));
-    show_line(log_lines::ack_response(15));
-    show_line(log_lines::ack_response(16));
-    show_number(0);
-    show_number(9);
-    show_number(10);
-    show_number(4096);
-    show_number(999999999);
-    show_number(1000000000);
-    show_number(4294967295);
+fn main(rt: HostRuntime) -> io::Result<()> {
+    show_lines(&rt, log_lines::unsynced_lines(two(), 0, false))?;
+    show_lines(&rt, log_lines::unsynced_lines(two(), 2, false))?;
+    show_lines(&rt, log_lines::unsynced_lines(largest(), 8, true))?;
+    show_lines(&rt, log_lines::unsynced_lines(largest(), 9, true))?;
+    show(
+        &rt,
+        log_lines::flight_line(flight(10, 0, 1000000009)).as_slice(),
+    )?;
+    for number in 12..17 {
+        show(&rt, log_lines::ack_response(number).as_slice())?;
+    }
+    for n in [0, 9, 10, 4096, 999999999, 1000000000, u32::MAX] {
+        show_number(&rt, n)?;
+    }
+    Ok(())
 }

@@ -3,117 +3,101 @@
 // is_synced says then.
 #![tactic(auto)]
 
-use laws::{DoneAnswer, Refusal, YesNoAnswer};
-use sync_ledger::{MarkStep, StepAnswer};
-
-const STDOUT: i32 = 1;
+use laws::Refusal;
+use std::io;
+use store::Flash;
+use sync_ledger::MarkStep;
 
 const CAPACITY: u32 = 20480;
 
-const LEDGER: usize = 20480 - store::SECTOR_LEN;
+const LEDGER: usize = CAPACITY as usize - store::SECTOR_LEN;
+
+static NO_FAULTS: [u8; 80] = [0; 80];
+
+// What a failing program keeps: every bit.
+static KEEP: [u8; 256] = [0xff; 256];
 
 const FLIGHT: u32 = 9;
 
-fn say(text: &[u8]) {
-    io::write_all(STDOUT, text);
+fn say_refusal(rt: &impl Print, refusal: Refusal) -> io::Result<()> {
+    let number = refusal.number();
+    let fault = refusal.fault();
+    print!(rt; "refused {number} {fault}")
 }
 
-fn say_number(n: u64) {
-    io::print_decimal(STDOUT, n);
-}
-
-fn say_refusal(refusal: Refusal) {
-    say(b"refused ");
-    say_number(refusal.number as u64);
-    say(b" ");
-    say_number(refusal.fault as u64);
-}
-
-fn say_step(step: MarkStep) {
+fn say_step(rt: &impl Print, step: MarkStep) -> io::Result<()> {
     match step {
-        MarkStep::EraseLedger { address } => {
-            say(b"erase ");
-            say_number(address as u64);
-        }
-        MarkStep::ProgramHeader { address } => {
-            say(b"header ");
-            say_number(address as u64);
-        }
-        MarkStep::ProgramBit { address, value } => {
-            say(b"bit ");
-            say_number(address as u64);
-            say(b" ");
-            say_number(value as u64);
-        }
-        MarkStep::Done => {
-            say(b"done");
-        }
+        MarkStep::EraseLedger { address } => print!(rt; "erase {address}"),
+        MarkStep::ProgramHeader { address } => print!(rt; "header {address}"),
+        MarkStep::ProgramBit { address, value } => print!(rt; "bit {address} {value}"),
+        MarkStep::Done => print!(rt; "done"),
     }
 }
 
-fn say_answer(answer: DoneAnswer) {
+fn say_answer(rt: &impl Print, answer: Result<(), Refusal>) -> io::Result<()> {
+    print!(rt; ": ")?;
     match answer {
-        DoneAnswer::Done => {
-            say(b": ok, ");
-        }
-        DoneAnswer::Refused(refusal) => {
-            say(b": ");
-            say_refusal(refusal);
-            say(b", ");
-        }
+        Ok(()) => print!(rt; "ok")?,
+        Err(refusal) => say_refusal(rt, refusal)?,
     }
+    print!(rt; ", ")
 }
 
-fn say_synced(answer: YesNoAnswer) {
+fn say_synced(rt: &impl Print, answer: Result<bool, Refusal>) -> io::Result<()> {
     match answer {
-        YesNoAnswer::Yes => {
-            say(b"synced\n");
-        }
-        YesNoAnswer::No => {
-            say(b"not synced\n");
-        }
-        YesNoAnswer::Refused(refusal) => {
-            say_refusal(refusal);
-            say(b"\n");
-        }
+        Ok(true) => print!(rt; "synced")?,
+        Ok(false) => print!(rt; "not synced")?,
+        Err(refusal) => say_refusal(rt, refusal)?,
+    }
+    println!(rt)
+}
+
+// The flash of an image whose reads all go well.
+fn flash(image: &[u8]) -> Flash<'_> {
+    Flash {
+        capacity_bytes: CAPACITY,
+        image,
+        faults: &NO_FAULTS,
     }
 }
 
 // One operation: planned, started with the device's reply, and what is_synced says then.
-fn operate(image: &mut [u8], faults: &[u8], keep: &[u8], reply: u8) {
-    match sync_ledger::next_mark_step(CAPACITY, image, faults, FLIGHT) {
-        StepAnswer::Refused(refusal) => {
-            say_refusal(refusal);
-            say(b"\n");
+fn operate(rt: &impl Print, image: &mut [u8], reply: u8) -> io::Result<()> {
+    match sync_ledger::next_mark_step(&flash(image), FLIGHT) {
+        Err(refusal) => {
+            say_refusal(rt, refusal)?;
+            println!(rt)
         }
-        StepAnswer::Step(step) => {
-            say_step(step);
-            let answer = sync_ledger::start_mark_step(CAPACITY, image, step, keep, reply);
-            say_answer(answer);
-            let synced = sync_ledger::is_synced(CAPACITY, image, faults, FLIGHT);
-            say_synced(synced);
+        Ok(step) => {
+            say_step(rt, step)?;
+            let answer = sync_ledger::start_mark_step(CAPACITY, image, step, &KEEP, reply);
+            say_answer(rt, answer)?;
+            say_synced(rt, sync_ledger::is_synced(&flash(image), FLIGHT))
         }
     }
 }
 
 // Four operations on an erased image with some bytes of its own; the first gets a reply.
-fn walk(title: &[u8], at: usize, bytes: &[u8], reply: u8) {
-    let mut image = [0xffu8; 20480];
-    let faults = [0u8; 80];
-    let keep = [0xffu8; 256];
+fn walk(rt: &impl Print, title: &str, at: usize, bytes: &[u8], reply: u8) -> io::Result<()> {
+    let mut image = [0xff; CAPACITY as usize];
     words::put_bytes(&mut image, at, bytes);
-    say(title);
-    say(b"\n");
-    operate(&mut image, &faults, &keep, reply);
-    operate(&mut image, &faults, &keep, 0);
-    operate(&mut image, &faults, &keep, 0);
-    operate(&mut image, &faults, &keep, 0);
+    println!(rt; "{title}")?;
+    for reply in [reply, 0, 0, 0] {
+        operate(rt, &mut image, reply)?;
+    }
+    Ok(())
 }
 
-fn main() {
-    walk(b"Foreign", LEDGER, b"FB", 0);
-    walk(b"Blank", LEDGER, b"", 0);
-    walk(b"Blank over a used bitmap", LEDGER + 9, b"\xfe", 0);
-    walk(b"Valid", LEDGER, b"FWSYNC01", 0);
-    walk(b"Valid, the first program fails", LEDGER, b"FWSYNC01", 7);
+fn main(rt: HostRuntime) -> io::Result<()> {
+    walk(&rt, "Foreign", LEDGER, b"FB", 0)?;
+    walk(&rt, "Blank", LEDGER, b"", 0)?;
+    walk(&rt, "Blank over a used bitmap", LEDGER + 9, b"\xfe", 0)?;
+    walk(&rt, "Valid", LEDGER, b"FWSYNC01", 0)?;
+    walk(
+        &rt,
+        "Valid, the first program fails",
+        LEDGER,
+        b"FWSYNC01",
+        7,
+    )
 }

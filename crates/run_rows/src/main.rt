@@ -5,6 +5,7 @@
 use log_search::StoredFlight;
 use log_sync::Unsynced;
 use rows::FilledRow;
+use std::io;
 
 fn flight(flight_id: u32) -> StoredFlight {
     StoredFlight {
@@ -16,61 +17,33 @@ fn flight(flight_id: u32) -> StoredFlight {
 
 // A row whose entries tell each other apart.
 fn row() -> [StoredFlight; 8] {
-    let a = flight(1);
-    let b = flight(2);
-    let c = flight(3);
-    let d = flight(4);
-    let e = flight(5);
-    let f = flight(6);
-    let g = flight(7);
-    let h = flight(8);
-    [a, b, c, d, e, f, g, h]
+    [1, 2, 3, 4, 5, 6, 7, 8].map(flight)
 }
 
 // A list of eight other flights, the newest first, of which so many count.
 fn listed(count: usize) -> Unsynced {
-    let a = flight(18);
-    let b = flight(17);
-    let c = flight(16);
-    let d = flight(15);
-    let e = flight(14);
-    let f = flight(13);
-    let g = flight(12);
-    let h = flight(11);
-    let flights = [a, b, c, d, e, f, g, h];
     Unsynced {
-        refused: 0,
-        fault: 0,
         count,
-        flights,
+        flights: [18, 17, 16, 15, 14, 13, 12, 11].map(flight),
         more: false,
     }
 }
 
-fn put(flight: StoredFlight) {
-    io::write_all(1, b" ");
-    io::print_decimal(1, flight.flight_id as u64);
+fn show(rt: &impl Print, filled: FilledRow) -> io::Result<()> {
+    let refused = match filled.answer {
+        Ok(()) => 0,
+        Err(refusal) => refusal.number(),
+    };
+    print!(rt; "refused {refused}:")?;
+    for flight in &filled.row {
+        print!(rt; " {}", flight.flight_id)?;
+    }
+    println!(rt)
 }
 
-fn show(filled: FilledRow) {
-    io::write_all(1, b"refused ");
-    io::print_decimal(1, filled.refused as u64);
-    io::write_all(1, b":");
-    let row = filled.row;
-    put(row[0]);
-    put(row[1]);
-    put(row[2]);
-    put(row[3]);
-    put(row[4]);
-    put(row[5]);
-    put(row[6]);
-    put(row[7]);
-    io::write_all(1, b"\n");
-}
-
-fn main() {
-    show(rows::filled_row(row(), listed(0)));
-    show(rows::filled_row(row(), listed(3)));
-    show(rows::filled_row(row(), listed(8)));
-    show(rows::filled_row(row(), listed(9)));
+fn main(rt: HostRuntime) -> io::Result<()> {
+    for count in [0, 3, 8, 9] {
+        show(&rt, rows::filled_row(row(), listed(count)))?;
+    }
+    Ok(())
 }

@@ -5,57 +5,60 @@
 // said.
 #![tactic(auto)]
 
+use blackbox::{FlightRecord, RECORDS_PER_PAGE};
 use std::fs::File;
+use std::io::Result;
 use std::os::fd::AsRawFd;
+
+const IMAGE_LEN: usize = 20480;
 
 // Page `index` as 256 bytes of one value.
 fn put_value(image: &mut [u8], index: u32, value: u8) {
-    let page = [value; 256];
-    words::put_bytes(image, layout::page_address(index), &page);
+    words::put_bytes(image, layout::page_address(index), &[value; 256]);
 }
 
 // Page `sequence` of a flight that begins at page `first`, with `count` all-zero records.
 fn put_page(image: &mut [u8], first: u32, flight: u32, sequence: u32, count: usize) {
-    let none = blackbox::no_record();
-    let encoded = blackbox::encode_page(flight, sequence, [none, none, none, none, none], count);
-    let index = std::num::wrapping_add_u32(first, sequence);
-    words::put_bytes(image, layout::page_address(index), &encoded.page);
+    let records = [FlightRecord::default(); RECORDS_PER_PAGE];
+    if let Ok(page) = blackbox::encode_page(flight, sequence, records, count) {
+        words::put_bytes(
+            image,
+            layout::page_address(first.wrapping_add(sequence)),
+            &page,
+        );
+    }
 }
 
 // `count` pages of a flight from `first` on.
 fn put_flight(image: &mut [u8], first: u32, count: u32, flight: u32) {
-    let mut sequence: u32 = 0;
-    while sequence < count {
-        put_page(image, first, flight, sequence, 5);
-        sequence += 1;
+    for sequence in 0..count {
+        put_page(image, first, flight, sequence, RECORDS_PER_PAGE);
     }
 }
 
 // A sample's name, whether its file is what the recipe builds, and the census of the file.
-fn sample(rt: &HostRuntime, name: &str, image: &[u8]) -> std::io::Result<()> {
-    io::write_all(1, b"sample ");
-    io::write_all(1, name.as_bytes());
-    let mut stored = [0u8; 20481];
+fn sample(rt: &HostRuntime, name: &str, image: &[u8]) -> Result<()> {
+    let mut stored = [0; IMAGE_LEN + 1];
     let input = File::open(rt, name)?;
     let n = io::read_full(input.as_raw_fd(), &mut stored);
-    if words::same_bytes(&stored[..n], image) {
-        io::write_all(1, b" as built\n");
+    if &stored[..n] == image {
+        println!(rt; "sample {name} as built")?;
     } else {
-        io::write_all(1, b" DIFFERS from what the recipe builds\n");
+        println!(rt; "sample {name} DIFFERS from what the recipe builds")?;
     }
     census_file(rt, name)
 }
 
 // The census of a file, by the code of the program `census`.
-fn census_file(rt: &HostRuntime, name: &str) -> std::io::Result<()> {
+fn census_file(rt: &HostRuntime, name: &str) -> Result<()> {
     let input = File::open(rt, name)?;
     census_print::print_census(input.as_raw_fd());
     Ok(())
 }
 
 // Document 01's example: pages 0 and 1 of flight 1, page 2 all zero, page 3 of flight 2.
-fn example(rt: &HostRuntime) -> std::io::Result<()> {
-    let mut image = [0xffu8; 20480];
+fn example(rt: &HostRuntime) -> Result<()> {
+    let mut image = [0xff; IMAGE_LEN];
     put_flight(&mut image, 0, 2, 1);
     put_value(&mut image, 2, 0);
     put_flight(&mut image, 3, 1, 2);
@@ -63,22 +66,22 @@ fn example(rt: &HostRuntime) -> std::io::Result<()> {
 }
 
 // No page used.
-fn fresh(rt: &HostRuntime) -> std::io::Result<()> {
-    let image = [0xffu8; 20480];
+fn fresh(rt: &HostRuntime) -> Result<()> {
+    let image = [0xff; IMAGE_LEN];
     sample(rt, "fresh", &image)
 }
 
 // All 16 pages used: eight of flight 1, eight of flight 2.
-fn full(rt: &HostRuntime) -> std::io::Result<()> {
-    let mut image = [0xffu8; 20480];
+fn full(rt: &HostRuntime) -> Result<()> {
+    let mut image = [0xff; IMAGE_LEN];
     put_flight(&mut image, 0, 8, 1);
     put_flight(&mut image, 8, 8, 2);
     sample(rt, "full", &image)
 }
 
 // Two brown-outs: pages 0 and 1 of flight 1, then two pages all zero.
-fn foreign(rt: &HostRuntime) -> std::io::Result<()> {
-    let mut image = [0xffu8; 20480];
+fn foreign(rt: &HostRuntime) -> Result<()> {
+    let mut image = [0xff; IMAGE_LEN];
     put_flight(&mut image, 0, 2, 1);
     put_value(&mut image, 2, 0);
     put_value(&mut image, 3, 0);
@@ -86,16 +89,16 @@ fn foreign(rt: &HostRuntime) -> std::io::Result<()> {
 }
 
 // Flight 1 after flight 2.
-fn falling(rt: &HostRuntime) -> std::io::Result<()> {
-    let mut image = [0xffu8; 20480];
+fn falling(rt: &HostRuntime) -> Result<()> {
+    let mut image = [0xff; IMAGE_LEN];
     put_flight(&mut image, 0, 2, 2);
     put_flight(&mut image, 2, 1, 1);
     sample(rt, "falling", &image)
 }
 
 // The full log with page 3 blank: the halving does not see it, so it is used and torn.
-fn hole(rt: &HostRuntime) -> std::io::Result<()> {
-    let mut image = [0xffu8; 20480];
+fn hole(rt: &HostRuntime) -> Result<()> {
+    let mut image = [0xff; IMAGE_LEN];
     put_flight(&mut image, 0, 8, 1);
     put_flight(&mut image, 8, 8, 2);
     put_value(&mut image, 3, 0xff);
@@ -103,8 +106,8 @@ fn hole(rt: &HostRuntime) -> std::io::Result<()> {
 }
 
 // Flight 1 ends with a page of two records, and the page behind it is torn: all zero. Then page 3 of flight 2.
-fn short(rt: &HostRuntime) -> std::io::Result<()> {
-    let mut image = [0xffu8; 20480];
+fn short(rt: &HostRuntime) -> Result<()> {
+    let mut image = [0xff; IMAGE_LEN];
     put_flight(&mut image, 0, 1, 1);
     put_page(&mut image, 0, 1, 1, 2);
     put_value(&mut image, 2, 0);
@@ -113,8 +116,8 @@ fn short(rt: &HostRuntime) -> std::io::Result<()> {
 }
 
 // Pages that decode and have no record: the second of flight 1, and the only one of flight 2.
-fn empty(rt: &HostRuntime) -> std::io::Result<()> {
-    let mut image = [0xffu8; 20480];
+fn empty(rt: &HostRuntime) -> Result<()> {
+    let mut image = [0xff; IMAGE_LEN];
     put_flight(&mut image, 0, 1, 1);
     put_page(&mut image, 0, 1, 1, 0);
     put_page(&mut image, 2, 2, 0, 0);
@@ -127,50 +130,36 @@ fn next_noise(s: u32) -> u32 {
 }
 
 fn fill_noise(block: &mut [u8]) {
-    let mut s: u32 = 1;
-    let mut i = 0;
-    while i < block.len() {
+    let mut s = 1;
+    for byte in block {
         s = next_noise(s);
-        block[i] = (s % 256) as u8;
-        i += 1;
-    }
-}
-
-fn write_blocks(output: i32, block: &[u8], count: u32) {
-    let mut i: u32 = 0;
-    while i < count {
-        io::write_all(output, block);
-        i += 1;
-    }
-}
-
-fn write_part(output: i32, block: &[u8], rest: usize) {
-    if rest <= block.len() {
-        io::write_all(output, &block[0..rest]);
+        *byte = (s % 256) as u8;
     }
 }
 
 // So many blocks of 4,096 bytes of noise and some bytes more, as a file.
-fn write_noise(rt: &HostRuntime, blocks: u32, rest: u32) -> std::io::Result<()> {
-    let mut block = [0u8; 4096];
+fn write_noise(rt: &HostRuntime, blocks: u32, rest: u32) -> Result<()> {
+    let mut block = [0; 4096];
     fill_noise(&mut block);
     let file = File::create(rt, "noise")?;
-    let output = file.as_raw_fd();
-    write_blocks(output, &block, blocks);
-    write_part(output, &block, rest as usize);
+    for _ in 0..blocks {
+        io::write_all(file.as_raw_fd(), &block);
+    }
+    if let Some(part) = block.get(..rest as usize) {
+        io::write_all(file.as_raw_fd(), part);
+    }
     Ok(())
 }
 
 // The census of a file of noise.
-fn noise(rt: &HostRuntime, blocks: u32, rest: u32) -> std::io::Result<()> {
+fn noise(rt: &HostRuntime, blocks: u32, rest: u32) -> Result<()> {
     write_noise(rt, blocks, rest)?;
-    io::write_all(1, b"noise of ");
-    io::print_decimal(1, blocks as u64 * 4096 + rest as u64);
-    io::write_all(1, b" bytes\n");
+    let bytes = u64::from(blocks) * 4096 + u64::from(rest);
+    println!(rt; "noise of {bytes} bytes")?;
     census_file(rt, "noise")
 }
 
-fn main(rt: HostRuntime) -> std::io::Result<()> {
+fn main(rt: HostRuntime) -> Result<()> {
     example(&rt)?;
     fresh(&rt)?;
     full(&rt)?;

@@ -1,29 +1,32 @@
 -- A row by its parts, and the rows of each operation as the code builds them. Assumes nothing.
-use Prim.Native.Nat.{ℕ, zero, suc, ◌+◌, ◌-◌, ◌*◌, ◌/◌, ◌%◌, ◌^◌, ◌≤◌, ◌<◌}
+use Prim.Native.Nat.{ℕ, zero, suc, ◌+◌, ◌-◌, ◌*◌, ◌%◌, ◌^◌, ◌≤◌, ◌<◌}
 use mathlib.Core.Path.{◌≡◌, refl, sym, ap, ◌∙◌}
 use mathlib.Core.Bool.{Bool, true, false, cond}
 use mathlib.Core.List.{List, [], ◌∷◌, ◌++◌}
 use native.Mathlib.Omega.{arith}
-use native.Mathlib.Numerals.{add-one}
 use native.Mathlib.Decide.{dec_lt}
 use borrow.Author.Tests.{eq-eqb, ne_eqb}
 use lib.Dec.{eqb}
-use lib.ListN.{length, get_or, take, drop, replicate, length-drop}
-use lib.Seq.{length-take-le}
-use Rattle.laws.specs.Answers.{gives}
+use mir.Val.{bool_byte}
+use lib.ListN.{length, get_or, take, drop, replicate, length-append, length-drop}
+use lib.Seq.{length-take-le, take_at, drop_at, drop-drop}
+use Rattle.std.specs.Prelude.{Result, Ok, Err}
+use Rattle.std.specs.Result.{ResultUnwrapsOrElse}
+use Rattle.laws.specs.declared.Refusal.{Refusal}
+use Rattle.laws.specs.Answers.{gives, told}
+use Rattle.laws.proofs.Chain.{given, no_refusal}
+use Rattle.blackbox.specs.declared.FlightRecord.{FlightRecord}
 use Rattle.laws.proofs.Choice.{cond_true, cond_false}
 use Rattle.words.specs.Words.{le_bytes, u32_at, same_bytes, placed}
 use Rattle.store.specs.Store.{part}
 use Rattle.blackbox.specs.Page.{padded}
-use Rattle.blackbox.specs.Record.{record_of, record_bytes, record_decoded, record_answer}
-use Rattle.blackbox.specs.declared.RecordAnswer.{RecordAnswer}
+use Rattle.blackbox.specs.Record.{record_of, record_decoded}
 use Rattle.words.proofs.Numbers.{stores_follow}
 use Rattle.blackbox.proofs.Laying.{length_padded, padded_more, padded_twice}
 use Rattle.log_writer.specs.Pass.{drain_order}
 use Rattle.log_writer.specs.declared.DrainOrder.{DrainOrder}
 use Rattle.log_writer.specs.declared.NextProgram.{NextProgram}
-use Rattle.log_writer.specs.declared.NextProgram.TheVariants.{Busy, Fault, Cut}
-use Rattle.script.specs.Script.{Operation, offers, drains, writes, powers, recovers, resets, flushes, flag_byte, next_byte, row, row_of}
+use Rattle.script.specs.Script.{Operation, offers, drains, writes, powers, recovers, resets, flushes, flag_byte, row, row_of}
 use Rattle.script.specs.Script.{flag_at, next_in, order_in, offered_in, operation_in, is_row, row_at, rows_in, each_is_row, is_script}
 
 -- ---- a row is laid from its front
@@ -48,7 +51,7 @@ module _ (operation next armed while_disarmed flag first second : ℕ) where
       ap (λ (k : ℕ). padded 32 0 front ++ (payload ++ replicate k 0))
       {x = 288 - length (padded 32 0 front ++ payload)} {y = 256 - length payload} (omega arith)
 
-  pub row_made : (payload o1 o2 o3 o4 : List ℕ) → length payload ≤ 256 → o1 ≡ placed (replicate 288 0) 0 head
+  row_made : (payload o1 o2 o3 o4 : List ℕ) → length payload ≤ 256 → o1 ≡ placed (replicate 288 0) 0 head
       → o2 ≡ placed o1 8 (le_bytes 4 first) → o3 ≡ placed o2 12 (le_bytes 4 second) → o4 ≡ placed o3 32 payload
       → o4 ≡ row operation next armed while_disarmed flag first second payload
   unfolding le_bytes
@@ -56,6 +59,23 @@ module _ (operation next armed while_disarmed flag first second : ℕ) where
       e4 ∙ ap (λ (l : List ℕ). placed l 32 payload) (rw (e3, e2, e1) front_stored ∙ padded_twice 288 0 front 32 (omega arith) (omega arith))
       ∙ padded_more 288 0 (padded 32 0 front) payload 32 (length_padded 32 0 front (omega arith)) (omega arith)
       ∙ row_filled payload h
+
+-- a flag's byte
+flag_as : (b : Bool) → bool_byte b ≡ flag_byte b
+flag_as true = refl
+flag_as false = refl
+
+-- the same where the flags are still to be laid as bytes, compared with some bytes
+pub head_laid : (operation next first second : ℕ) (armed while_disarmed flag : Bool) (a d f : ℕ) (bytes payload o1 o2 o3 o4 : List ℕ) (r : Bool)
+    → length payload ≤ 256 → a ≡ bool_byte armed → d ≡ bool_byte while_disarmed → f ≡ bool_byte flag
+    → o1 ≡ placed (replicate 288 0) 0 (32 ∷ 1 ∷ operation ∷ next ∷ a ∷ d ∷ f ∷ 0 ∷ []) → o2 ≡ placed o1 8 (le_bytes 4 first)
+    → o3 ≡ placed o2 12 (le_bytes 4 second) → o4 ≡ placed o3 32 payload → r ≡ same_bytes bytes o4
+    → r ≡ same_bytes bytes (row operation next (flag_byte armed) (flag_byte while_disarmed) (flag_byte flag) first second payload)
+head_laid operation next first second armed while_disarmed flag a d f bytes payload o1 o2 o3 o4 r h ea ed ef e1 e2 e3 e4 er =
+    er ∙ ap (same_bytes bytes)
+    (row_made operation next (flag_byte armed) (flag_byte while_disarmed) (flag_byte flag) first second payload o1 o2 o3 o4 h
+    (e1 ∙ (λ k. placed (replicate 288 0) 0
+    (32 ∷ 1 ∷ operation ∷ next ∷ (ea ∙ flag_as armed) k ∷ (ed ∙ flag_as while_disarmed) k ∷ (ef ∙ flag_as flag) k ∷ 0 ∷ []))) e2 e3 e4)
 
 -- ---- a record in a row
 
@@ -65,9 +85,11 @@ record_there bytes n =
     let long = length-take-le 48 (drop 32 bytes) (omega (arith, length-drop 32 bytes)) in
     rw (eq-eqb (length (part 32 48 bytes)) 48 long) refl
 
-pub record_in : (bytes : List ℕ) (answer : RecordAnswer) → length bytes ≡ 288 → answer ≡ record_answer (record_decoded (part 32 48 bytes))
-    → answer.«record» ≡ offered_in bytes
-record_in bytes answer n e = ap (λ (x : RecordAnswer). x.«record») (e ∙ ap record_answer (record_there bytes n))
+-- what was decoded of it, or the default where it would be refused
+record_in : (bytes : List ℕ) (decoded : Result FlightRecord Refusal) (Instead : FlightRecord → Type 0) (r : FlightRecord) → length bytes ≡ 288
+    → told decoded ≡ record_decoded (part 32 48 bytes) → ResultUnwrapsOrElse decoded Instead r → r ≡ offered_in bytes
+record_in bytes (Ok x) Instead r n e h = h ∙ given (e ∙ record_there bytes n)
+record_in bytes (Err why) Instead r n e h = absurd (no_refusal (e ∙ record_there bytes n))
 
 -- ---- the operation that a row says, by its byte
 
@@ -123,80 +145,43 @@ module _ (bytes : List ℕ) where
       later 0 _ _ (λ z. omega arith) ∙ later 1 _ _ (λ z. omega arith) ∙ later 2 _ _ (λ z. omega arith) ∙ later 3 _ _ (λ z. omega arith)
       ∙ later 4 _ _ (λ z. omega arith) ∙ later 5 _ _ (λ z. omega arith)
 
-  -- ---- whether it is the row of that operation
+  -- ---- the same, as the code reads it
 
-  is_that : (o : Operation) (expected : List ℕ) (r : Bool) → operation_in bytes ≡ o → expected ≡ row_of o
-      → r ≡ same_bytes bytes expected → r ≡ is_row bytes
-  unfolding is_row
-  is_that o expected r eo ee er = er ∙ ap (same_bytes bytes) (ee ∙ ap row_of (sym eo))
+  module _ (b : ℕ) (eb : b ≡ code) where
+    pub reads_offer : (decoded : Result FlightRecord Refusal) (Instead : FlightRecord → Type 0) (r : FlightRecord) → length bytes ≡ 288 → b ≡ 0
+        → told decoded ≡ record_decoded (part 32 48 bytes) → ResultUnwrapsOrElse decoded Instead r → offers r ≡ operation_in bytes
+    reads_offer decoded Instead r n e ed er = ap offers (record_in bytes decoded Instead r n ed er) ∙ sym (says_offer (sym eb ∙ e))
 
-  pub offer_row : (answer : RecordAnswer) (payload expected : List ℕ) (r : Bool) → length bytes ≡ 288 → code ≡ 0
-      → answer ≡ record_answer (record_decoded (part 32 48 bytes)) → payload ≡ record_bytes answer.«record»
-      → expected ≡ row 0 0 0 0 0 0 0 payload → r ≡ same_bytes bytes expected → r ≡ is_row bytes
-  unfolding row_of
-  offer_row answer payload expected r n e ea ep ee er =
-      is_that (offers (offered_in bytes)) expected r (says_offer e)
-      (ee ∙ ap (row 0 0 0 0 0 0 0) (ep ∙ ap record_bytes (record_in bytes answer n ea))) er
+    pub reads_drain : (order : DrainOrder) → b ≡ 1 → order ≡ order_in bytes → drains order (part 32 256 bytes) ≡ operation_in bytes
+    reads_drain order e eo = ap (λ (o : DrainOrder). drains o (part 32 256 bytes)) eo ∙ sym (says_drain (sym eb ∙ e))
 
-  pub drain_row : (order : DrainOrder) (next armed while_disarmed : ℕ) (expected : List ℕ) (r : Bool) → code ≡ 1 → order ≡ order_in bytes
-      → next ≡ next_byte order.next → armed ≡ flag_byte order.armed → while_disarmed ≡ flag_byte order.record_while_disarmed
-      → expected ≡ row 1 next armed while_disarmed 0 order.limit order.succeed (part 32 256 bytes)
-      → r ≡ same_bytes bytes expected → r ≡ is_row bytes
-  unfolding row_of
-  drain_row order next armed while_disarmed expected r e eo en ea ed ee er =
-      is_that _ expected r (says_drain e)
-      (ee ∙ (λ k. row 1 (en k) (ea k) (ed k) 0 order.limit order.succeed (part 32 256 bytes))
-      ∙ ap (λ (o : DrainOrder). row_of (drains o (part 32 256 bytes))) eo) er
+    pub reads_write : (succeed y : ℕ) (next : NextProgram) → b ≡ 2 → succeed ≡ u32_at bytes 12 → y ≡ get_or bytes 3 0 → next ≡ next_in y
+        → writes succeed next (part 32 256 bytes) ≡ operation_in bytes
+    reads_write succeed y next e es ey en =
+        (λ k. writes (es k) ((en ∙ ap next_in ey) k) (part 32 256 bytes)) ∙ sym (says_write (sym eb ∙ e))
 
-  pub write_row : (next : NextProgram) (b nb succeed : ℕ) (expected : List ℕ) (r : Bool)
-      → code ≡ 2 → b ≡ get_or bytes 3 0 → next ≡ next_in b → nb ≡ next_byte next → succeed ≡ u32_at bytes 12
-      → expected ≡ row 2 nb 0 0 0 0 succeed (part 32 256 bytes) → r ≡ same_bytes bytes expected → r ≡ is_row bytes
-  unfolding row_of
-  write_row next b nb succeed expected r e e0 e1 e2 e3 ee er =
-      is_that _ expected r (says_write e)
-      (ee ∙ (λ k. row 2 ((e2 ∙ ap next_byte (e1 ∙ ap next_in e0)) k) 0 0 0 0 (e3 k) (part 32 256 bytes))) er
+    pub reads_power : b ≡ 3 → powers ≡ operation_in bytes
+    reads_power e = sym (says_power (sym eb ∙ e))
 
-  pub power_row : (operation : ℕ) (r : Bool) → operation ≡ code → operation ≡ 3
-      → r ≡ same_bytes bytes (row 3 0 0 0 0 0 0 []) → r ≡ is_row bytes
-  unfolding row_of
-  power_row operation r eo e er = is_that _ _ r (says_power (sym eo ∙ e)) refl er
+    pub reads_recover : (page flight : ℕ) (writable : Bool) → b ≡ 4 → page ≡ u32_at bytes 8 → flight ≡ u32_at bytes 12 → writable ≡ flag_at bytes 6
+        → recovers page flight writable ≡ operation_in bytes
+    reads_recover page flight writable e ep ef ew = (λ k. recovers (ep k) (ef k) (ew k)) ∙ sym (says_recover (sym eb ∙ e))
 
-  pub recover_row : (flag : Bool) (nf first second : ℕ) (expected : List ℕ) (r : Bool) → code ≡ 4 → flag ≡ flag_at bytes 6
-      → nf ≡ flag_byte flag → first ≡ u32_at bytes 8 → second ≡ u32_at bytes 12 → expected ≡ row 4 0 0 0 nf first second []
-      → r ≡ same_bytes bytes expected → r ≡ is_row bytes
-  unfolding row_of
-  recover_row flag nf first second expected r e e1 e2 e3 e4 ee er =
-      is_that _ expected r (says_recover e) (ee ∙ (λ k. row 4 0 0 0 ((e2 ∙ ap flag_byte e1) k) (e3 k) (e4 k) [])) er
+    pub reads_reset : b ≡ 5 → resets ≡ operation_in bytes
+    reads_reset e = sym (says_reset (sym eb ∙ e))
 
-  pub reset_row : (operation : ℕ) (r : Bool) → operation ≡ code → operation ≡ 5
-      → r ≡ same_bytes bytes (row 5 0 0 0 0 0 0 []) → r ≡ is_row bytes
-  unfolding row_of
-  reset_row operation r eo e er = is_that _ _ r (says_reset (sym eo ∙ e)) refl er
+    pub reads_flush : (buffered : Bool) (clock : ℕ) → 5 < b → buffered ≡ flag_at bytes 6 → clock ≡ u32_at bytes 8 + 2 ^ 32 * u32_at bytes 12
+        → flushes buffered clock ≡ operation_in bytes
+    reads_flush buffered clock h eb' ec = (λ k. flushes (eb' k) (ec k)) ∙ sym (says_flush (omega (arith, eb)))
 
-  pub flush_row : (flag : Bool) (nf low high : ℕ) (expected : List ℕ) (r : Bool) → 5 < code → low < 2 ^ 32 → flag ≡ flag_at bytes 6
-      → nf ≡ flag_byte flag → low ≡ u32_at bytes 8 → high ≡ u32_at bytes 12 → expected ≡ row 6 0 0 0 nf low high []
-      → r ≡ same_bytes bytes expected → r ≡ is_row bytes
-  unfolding row_of
-  flush_row flag nf low high expected r e h e1 e2 e3 e4 ee er =
-      is_that _ expected r (says_flush e) (ee ∙ (λ k. row 6 0 0 0 ((e2 ∙ ap flag_byte e1) k) (first k) (second k) [])) er
-    where
-      first : low ≡ (u32_at bytes 8 + 2 ^ 32 * u32_at bytes 12) % 2 ^ 32
-      first = omega (arith, e3)
+-- what `search` is given where a row is read
+pub ruleset reads = (reads_offer, reads_drain, reads_write, reads_power, reads_recover, reads_reset)
 
-      second : high ≡ (u32_at bytes 8 + 2 ^ 32 * u32_at bytes 12) / 2 ^ 32
-      second = omega (arith, e3, e4)
+-- ---- whether a row is that of the operation that it says
 
--- ---- what the program after those that succeed does
-
-pub next_busy : (c : ℕ) → c ≡ 0 → Busy ≡ next_in c
-next_busy c e = rw (eq-eqb c 0 e) refl
-
-module _ (c : ℕ) (h : c ≡ 0 → ⊥) where
-  pub next_fault : c ≡ 1 → Fault ≡ next_in c
-  next_fault e = rw (ne_eqb c 0 h, eq-eqb c 1 e) refl
-
-  pub next_cut : (c ≡ 1 → ⊥) → Cut ≡ next_in c
-  next_cut k = rw (ne_eqb c 0 h, ne_eqb c 1 k) refl
+pub is_that : (bytes : List ℕ) (o : Operation) (r : Bool) → o ≡ operation_in bytes → r ≡ same_bytes bytes (row_of o) → r ≡ is_row bytes
+unfolding is_row
+is_that bytes o r eo er = er ∙ ap (λ (x : Operation). same_bytes bytes (row_of x)) eo
 
 -- ---- rows one after another
 
@@ -216,41 +201,67 @@ each_false script i (suc n) h e = go (dec_lt i n) (λ l. each_false script i n l
         ap (λ (b : Bool). cond (each_is_row script n) b false) (ap (λ (j : ℕ). is_row (row_at script j)) (sym z) ∙ e)
         ∙ either (each_is_row script n)
 
+-- the rows from n on are a row and what is behind it
+pub record Stands (script : List ℕ) (n : ℕ) (row rest : List ℕ) : Type 0 where
+  pub here : row ≡ row_at script n
+  pub behind : rest ≡ drop ((n + 1) * 288) script
+  pub inside : n < rows_in script
+
+pub stands : (script : List ℕ) (n : ℕ) (row rest both : List ℕ) → both ≡ drop (n * 288) script → both ≡ row ++ rest → length row ≡ 288
+    → Stands script n row rest
+stands script n row rest both e s l =
+    record {
+      here = sym (take_at row rest 288 l) ∙ ap (take 288) (sym s ∙ e);
+      behind = sym (drop_at row rest 288 l) ∙ ap (drop 288) (sym s ∙ e) ∙ drop-drop 288 (n * 288) script ∙ ap (λ (k : ℕ). drop k script) more;
+      inside = omega (arith, l, length-append row rest, ap (length {A = ℕ}) (sym s ∙ e), length-drop (n * 288) script);
+    }
+  where
+    more : n * 288 + 288 ≡ (n + 1) * 288
+    more = omega arith
+
 module _ (script : List ℕ) where
-  -- the row at an index, as a part from its start to its end, is 288 bytes
-  pub row_long : (i : ℕ) → i < rows_in script → length (take (i * 288 + 288 - i * 288) (drop (i * 288) script)) ≡ 288
-  row_long i h =
-      let z : i * 288 + 288 - i * 288 ≡ 288 = omega arith in
-      length-take-le (i * 288 + 288 - i * 288) (drop (i * 288) script) (omega (arith, length-drop (i * 288) script)) ∙ z
+  -- what is so where the first n rows were tested
+  pub record Tested (n : ℕ) (rest : List ℕ) : Type 0 where
+    pub left : rest ≡ drop (n * 288) script
+    pub whole : length script % 288 ≡ 0
+    pub few : n ≤ rows_in script
+    pub each : each_is_row script n ≡ true
 
-  pub no_row_yet : each_is_row script 0 ≡ true
-  unfolding each_is_row
-  no_row_yet = refl
-
-  pub bad_length_lem : (length script % 288 ≡ 0 → ⊥) → false ≡ is_script script
+  pub no_script : (length script % 288 ≡ 0 → ⊥) → false ≡ is_script script
   unfolding is_script
-  bad_length_lem h = sym (cond_false (eqb (length script % 288) 0) _ _ (ne_eqb (length script % 288) 0 h))
+  no_script h = sym (cond_false (eqb (length script % 288) 0) _ _ (ne_eqb (length script % 288) 0 h))
 
-  module _ (h : length script % 288 ≡ 0) where
-    whole : is_script script ≡ each_is_row script (rows_in script)
-    unfolding is_script
-    whole = cond_true (eqb (length script % 288) 0) _ _ (eq-eqb (length script % 288) 0 h)
+  pub untested : (rest : List ℕ) → rest ≡ script → length script % 288 ≡ 0 → Tested 0 rest
+  unfolding each_is_row
+  untested rest e h = record { left = e; whole = h; few = omega arith; each = refl }
 
-    -- the row that was tested, as a part from its start to its end
-    pub bad_row : (i : ℕ) (r : Bool) → i < rows_in script → r ≡ is_row (take (i * 288 + 288 - i * 288) (drop (i * 288) script)) → r ≡ false
-        → false ≡ is_script script
-    bad_row i r l er n =
-        let z : i * 288 + 288 - i * 288 ≡ 288 = omega arith in
-        let none = ap (λ (k : ℕ). is_row (take k (drop (i * 288) script))) (sym z) ∙ sym er ∙ n in
-        sym (whole ∙ each_false script i (rows_in script) l none)
+  by_rows : length script % 288 ≡ 0 → is_script script ≡ each_is_row script (rows_in script)
+  unfolding is_script
+  by_rows h = cond_true (eqb (length script % 288) 0) _ _ (eq-eqb (length script % 288) 0 h)
 
-    pub row_more : (i : ℕ) (r : Bool) → r ≡ is_row (take (i * 288 + 288 - i * 288) (drop (i * 288) script)) → r ≡ true
-        → each_is_row script i ≡ true → each_is_row script (i + 1) ≡ true
-    unfolding each_is_row
-    row_more i r er n e =
-        let z : i * 288 + 288 - i * 288 ≡ 288 = omega arith in
-        ap (each_is_row script) (add-one i) ∙ cond_true (each_is_row script i) (is_row (row_at script i)) false e
-        ∙ ap (λ (k : ℕ). is_row (take k (drop (i * 288) script))) (sym z) ∙ sym er ∙ n
+  module _ (n : ℕ) (rest : List ℕ) (t : Tested n rest) where
+    module _ (row behind : List ℕ) (s : rest ≡ row ++ behind) (l : length row ≡ 288) (b : Bool) (eb : b ≡ is_row row) where
+      at : Stands script n row behind
+      at = stands script n row behind rest t.left s l
 
-    pub every_row : (i : ℕ) → i ≤ rows_in script → rows_in script ≤ i → each_is_row script i ≡ true → true ≡ is_script script
-    every_row i l m e = let z : rows_in script ≡ i = omega arith in sym (whole ∙ ap (each_is_row script) z ∙ e)
+      test : b ≡ is_row (row_at script n)
+      test = eb ∙ ap is_row at.here
+
+      pub tested_more : (m : ℕ) → m ≡ n + 1 → b ≡ true → Tested m behind
+      unfolding each_is_row
+      tested_more m em e =
+          let k : m ≡ suc n = omega arith in
+          record {
+            left = at.behind ∙ ap (λ (i : ℕ). drop (i * 288) script) (sym em);
+            whole = t.whole;
+            few = omega (arith, at.inside);
+            each = ap (each_is_row script) k ∙ cond_true (each_is_row script n) (is_row (row_at script n)) false t.each ∙ sym test ∙ e;
+          }
+
+      pub other_row : b ≡ false → false ≡ is_script script
+      other_row e = sym (by_rows t.whole ∙ each_false script n (rows_in script) at.inside (sym test ∙ e))
+
+    pub every_row : length rest < 288 → true ≡ is_script script
+    every_row l =
+        let z : rows_in script ≡ n = omega (arith, t.few, t.whole, ap (length {A = ℕ}) t.left, length-drop (n * 288) script) in
+        sym (by_rows t.whole ∙ ap (each_is_row script) z ∙ t.each)

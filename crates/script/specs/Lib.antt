@@ -1,2 +1,3 @@
 pub mod Script
 pub mod Laws
+pub mod Said

@@ -7,5 +7,6 @@ pub fn stipeflute_assemble(script: &[u8], answer: &mut [u8]) -> u32
     ensures value { result ≡ row_reply 261 answer.old (laid played_row (last_played script.now)) }
     ensures lent { answer.new ≡ row_after 261 answer.old (laid played_row (last_played script.now)) }
 {
-    reply_assembler::lay_script(script, answer)
+    let played = reply_assembler::last_played(script);
+    reply::lay(played.map(reply_assembler::played_row), answer)
 }

@@ -14,8 +14,7 @@ pub fn stipeflute_crc32(bytes: &[u8], answer: &mut [u8]) -> u32
     ensures value { result ≡ row_reply 4 answer.old (gives (number_row (crc32_of bytes.now))) }
     ensures lent { answer.new ≡ row_after 4 answer.old (gives (number_row (crc32_of bytes.now))) }
 {
-    let checksum = crc32::crc32(bytes);
-    reply::give_number(answer, checksum)
+    reply::lay(Ok(words::u32_bytes(crc32::crc32(bytes))), answer)
 }
 
 pub fn stipeflute_record_encode(
@@ -45,31 +44,29 @@ pub fn stipeflute_record_encode(
     ensures value { result ≡ row_reply 48 answer.old (gives (record_bytes (flight_record timestamp_us control_sequence imu_sequence flags (raw_0 ∷ raw_1 ∷ raw_2 ∷ []) (filtered_0 ∷ filtered_1 ∷ filtered_2 ∷ []) (command_0 ∷ command_1 ∷ command_2 ∷ []) (pid_0 ∷ pid_1 ∷ pid_2 ∷ []) throttle (motors_0 ∷ motors_1 ∷ motors_2 ∷ motors_3 ∷ [])))) }
     ensures lent { answer.new ≡ row_after 48 answer.old (gives (record_bytes (flight_record timestamp_us control_sequence imu_sequence flags (raw_0 ∷ raw_1 ∷ raw_2 ∷ []) (filtered_0 ∷ filtered_1 ∷ filtered_2 ∷ []) (command_0 ∷ command_1 ∷ command_2 ∷ []) (pid_0 ∷ pid_1 ∷ pid_2 ∷ []) throttle (motors_0 ∷ motors_1 ∷ motors_2 ∷ motors_3 ∷ [])))) }
 {
-    let raw = [raw_0, raw_1, raw_2];
-    let filtered = [filtered_0, filtered_1, filtered_2];
-    let command = [command_0, command_1, command_2];
-    let pid = [pid_0, pid_1, pid_2];
-    let motors = [motors_0, motors_1, motors_2, motors_3];
     let record = FlightRecord {
         timestamp_us,
         control_sequence,
         imu_sequence,
         flags,
-        raw_gyro_dps10: raw,
-        filtered_gyro_dps10: filtered,
-        command_dps10: command,
-        pid,
+        raw_gyro_dps10: [raw_0, raw_1, raw_2],
+        filtered_gyro_dps10: [filtered_0, filtered_1, filtered_2],
+        command_dps10: [command_0, command_1, command_2],
+        pid: [pid_0, pid_1, pid_2],
         throttle,
-        motors,
+        motors: [motors_0, motors_1, motors_2, motors_3],
     };
-    reply_codec::give_record(record, answer)
+    reply::lay(Ok(record.encode()), answer)
 }
 
 pub fn stipeflute_record_decode(input: &[u8], answer: &mut [u8]) -> u32
     ensures value { result ≡ row_reply 48 answer.old (laid record_bytes (record_decoded input.now)) }
     ensures lent { answer.new ≡ row_after 48 answer.old (laid record_bytes (record_decoded input.now)) }
 {
-    reply_codec::lay_record(FlightRecord::decode(input), answer)
+    reply::lay(
+        FlightRecord::decode(input).map(FlightRecord::encode),
+        answer,
+    )
 }
 
 pub fn stipeflute_encode_page(
@@ -83,14 +80,17 @@ pub fn stipeflute_encode_page(
     ensures lent { answer.new ≡ row_after 256 answer.old (laid as_is (encoded_rows flight_id page_sequence rows.now count)) }
 {
     let page = reply_codec::encode_rows(flight_id, page_sequence, rows, count as usize);
-    reply_codec::lay_page(page, answer)
+    reply::lay(page, answer)
 }
 
 pub fn stipeflute_decode_page(page: &[u8], answer: &mut [u8]) -> u32
     ensures value { result ≡ row_reply 9 answer.old (laid metadata_row (decoded page.now)) }
     ensures lent { answer.new ≡ row_after 9 answer.old (laid metadata_row (decoded page.now)) }
 {
-    reply_codec::lay_metadata(blackbox::decode_page(page), answer)
+    reply::lay(
+        blackbox::decode_page(page).map(reply_codec::metadata_row),
+        answer,
+    )
 }
 
 pub fn stipeflute_record_from_page(page: &[u8], index: u32, answer: &mut [u8]) -> u32
@@ -98,13 +98,12 @@ pub fn stipeflute_record_from_page(page: &[u8], index: u32, answer: &mut [u8]) -
     ensures lent { answer.new ≡ row_after 48 answer.old (laid record_bytes (record_from_page page.now index)) }
 {
     let record = blackbox::record_from_page(page, index as usize);
-    reply_codec::lay_record(record, answer)
+    reply::lay(record.map(FlightRecord::encode), answer)
 }
 
 pub fn stipeflute_scratch_test_page(answer: &mut [u8]) -> u32
     ensures value { result ≡ row_reply 256 answer.old (gives scratch_page) }
     ensures lent { answer.new ≡ row_after 256 answer.old (gives scratch_page) }
 {
-    let row = records::scratch_test_page();
-    reply::give(answer, &row)
+    reply::lay(Ok(records::scratch_test_page()), answer)
 }

@@ -5,43 +5,46 @@ ghost use Rattle.store.specs.Store.{read_told, after_read, program_told, after_p
 ghost use Rattle.reply.specs.Reply.{reply_of, row_reply, row_after, laid, number_row, option_row};
 ghost use Rattle.reply_codec.specs.CodecRows.{layout_row};
 
+use store::Flash;
+
 pub fn stipeflute_storage_layout(capacity_bytes: u32, answer: &mut [u8]) -> u32
     ensures value { result ≡ row_reply 20 answer.old (laid layout_row (layout_of capacity_bytes)) }
     ensures lent { answer.new ≡ row_after 20 answer.old (laid layout_row (layout_of capacity_bytes)) }
 {
     let made = layout::StorageLayout::new(capacity_bytes);
-    reply_codec::lay_layout(made, answer)
+    reply::lay(made.map(reply_codec::layout_row), answer)
 }
 
 pub fn stipeflute_log_page_address(capacity_bytes: u32, page_index: u32, answer: &mut [u8]) -> u32
     ensures value { result ≡ row_reply 5 answer.old (laid option_row (log_page_address capacity_bytes page_index)) }
     ensures lent { answer.new ≡ row_after 5 answer.old (laid option_row (log_page_address capacity_bytes page_index)) }
 {
-    reply_codec::lay_address(layout::log_page_address(capacity_bytes, page_index), answer)
+    let address = layout::log_page_address(capacity_bytes, page_index);
+    reply::lay(address.map(reply::option_row), answer)
 }
 
 pub fn stipeflute_log_sector_count(capacity_bytes: u32, answer: &mut [u8]) -> u32
     ensures value { result ≡ row_reply 4 answer.old (laid number_row (log_sector_count capacity_bytes)) }
     ensures lent { answer.new ≡ row_after 4 answer.old (laid number_row (log_sector_count capacity_bytes)) }
 {
-    reply_codec::lay_number(layout::log_sector_count(capacity_bytes), answer)
+    let count = layout::log_sector_count(capacity_bytes);
+    reply::lay(count.map(words::u32_bytes), answer)
 }
 
 pub fn stipeflute_sync_ledger_address(capacity_bytes: u32, answer: &mut [u8]) -> u32
     ensures value { result ≡ row_reply 4 answer.old (laid number_row (sync_ledger_address capacity_bytes)) }
     ensures lent { answer.new ≡ row_after 4 answer.old (laid number_row (sync_ledger_address capacity_bytes)) }
 {
-    reply_codec::lay_number(layout::sync_ledger_address(capacity_bytes), answer)
+    let address = layout::sync_ledger_address(capacity_bytes);
+    reply::lay(address.map(words::u32_bytes), answer)
 }
 
 pub fn stipeflute_log_erase_sector_address(capacity_bytes: u32, step: u32, answer: &mut [u8]) -> u32
     ensures value { result ≡ row_reply 5 answer.old (laid option_row (log_erase_sector_address capacity_bytes step)) }
     ensures lent { answer.new ≡ row_after 5 answer.old (laid option_row (log_erase_sector_address capacity_bytes step)) }
 {
-    reply_codec::lay_address(
-        layout::log_erase_sector_address(capacity_bytes, step),
-        answer,
-    )
+    let address = layout::log_erase_sector_address(capacity_bytes, step);
+    reply::lay(address.map(reply::option_row), answer)
 }
 
 pub fn stipeflute_read(
@@ -54,7 +57,12 @@ pub fn stipeflute_read(
     ensures value { result ≡ reply_of (read_told capacity_bytes image.now faults.now address output.old) }
     ensures lent { output.new ≡ after_read capacity_bytes image.now faults.now address output.old }
 {
-    reply::done(store::read(capacity_bytes, image, faults, address, output))
+    let flash = Flash {
+        capacity_bytes,
+        image,
+        faults,
+    };
+    reply::done(flash.read(address, output))
 }
 
 pub fn stipeflute_page_program(

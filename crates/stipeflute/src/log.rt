@@ -7,6 +7,8 @@ ghost use Rattle.log_search.specs.Search.{found_flight, older_flight};
 ghost use Rattle.reply.specs.Reply.{row_reply, row_after, laid};
 ghost use Rattle.reply_log.specs.LogRows.{scan_row, reason_row, flight_row, found_row};
 
+use store::Flash;
+
 pub fn stipeflute_scan_log(
     capacity_bytes: u32,
     image: &[u8],
@@ -16,7 +18,12 @@ pub fn stipeflute_scan_log(
     ensures value { result ≡ row_reply 9 answer.old (laid scan_row (scanned capacity_bytes image.now faults.now)) }
     ensures lent { answer.new ≡ row_after 9 answer.old (laid scan_row (scanned capacity_bytes image.now faults.now)) }
 {
-    reply_log::lay_scan(records::scan_log(capacity_bytes, image, faults), answer)
+    let flash = Flash {
+        capacity_bytes,
+        image,
+        faults,
+    };
+    reply::lay(records::scan_log(&flash).map(reply_log::scan_row), answer)
 }
 
 pub fn stipeflute_explain(
@@ -28,7 +35,12 @@ pub fn stipeflute_explain(
     ensures value { result ≡ row_reply 11 answer.old (laid reason_row (explained capacity_bytes image.now faults.now)) }
     ensures lent { answer.new ≡ row_after 11 answer.old (laid reason_row (explained capacity_bytes image.now faults.now)) }
 {
-    reply_log::lay_explained(records::explain(capacity_bytes, image, faults), answer)
+    let flash = Flash {
+        capacity_bytes,
+        image,
+        faults,
+    };
+    reply::lay(records::explain(&flash).map(reply_log::reason_row), answer)
 }
 
 pub fn stipeflute_page_flight_id(
@@ -41,10 +53,13 @@ pub fn stipeflute_page_flight_id(
     ensures value { result ≡ row_reply 5 answer.old (laid flight_row (flight_of_page capacity_bytes image.now faults.now index)) }
     ensures lent { answer.new ≡ row_after 5 answer.old (laid flight_row (flight_of_page capacity_bytes image.now faults.now index)) }
 {
-    reply_log::lay_flight(
-        records::page_flight_id(capacity_bytes, image, faults, index),
-        answer,
-    )
+    let flash = Flash {
+        capacity_bytes,
+        image,
+        faults,
+    };
+    let flight = records::page_flight_id(&flash, index);
+    reply::lay(flight.map(reply_log::flight_row), answer)
 }
 
 pub fn stipeflute_find_flight(
@@ -58,10 +73,13 @@ pub fn stipeflute_find_flight(
     ensures value { result ≡ row_reply 13 answer.old (laid found_row (found_flight capacity_bytes image.now faults.now used_pages flight_id)) }
     ensures lent { answer.new ≡ row_after 13 answer.old (laid found_row (found_flight capacity_bytes image.now faults.now used_pages flight_id)) }
 {
-    reply_log::lay_find(
-        log_search::find_flight(capacity_bytes, image, faults, used_pages, flight_id),
-        answer,
-    )
+    let flash = Flash {
+        capacity_bytes,
+        image,
+        faults,
+    };
+    let found = log_search::find_flight(&flash, used_pages, flight_id);
+    reply::lay(found.map(reply_log::found_row), answer)
 }
 
 pub fn stipeflute_older_flight(
@@ -74,8 +92,11 @@ pub fn stipeflute_older_flight(
     ensures value { result ≡ row_reply 13 answer.old (laid found_row (older_flight capacity_bytes image.now faults.now end)) }
     ensures lent { answer.new ≡ row_after 13 answer.old (laid found_row (older_flight capacity_bytes image.now faults.now end)) }
 {
-    reply_log::lay_find(
-        log_search::older_flight(capacity_bytes, image, faults, end),
-        answer,
-    )
+    let flash = Flash {
+        capacity_bytes,
+        image,
+        faults,
+    };
+    let found = log_search::older_flight(&flash, end);
+    reply::lay(found.map(reply_log::found_row), answer)
 }

@@ -5,6 +5,8 @@ ghost use Rattle.log_sync.specs.Sync.{all_synced, ack_checked};
 ghost use Rattle.reply.specs.Reply.{reply_of, row_reply, row_after, laid};
 ghost use Rattle.reply_log.specs.LogRows.{flag_row, header_row, bit_row, step_row, step_of, recording_of};
 
+use store::Flash;
+
 pub fn stipeflute_read_header(
     capacity_bytes: u32,
     image: &[u8],
@@ -14,8 +16,13 @@ pub fn stipeflute_read_header(
     ensures value { result ≡ row_reply 1 answer.old (laid header_row (read_header capacity_bytes image.now faults.now)) }
     ensures lent { answer.new ≡ row_after 1 answer.old (laid header_row (read_header capacity_bytes image.now faults.now)) }
 {
-    reply_log::lay_header(
-        sync_ledger::read_header(capacity_bytes, image, faults),
+    let flash = Flash {
+        capacity_bytes,
+        image,
+        faults,
+    };
+    reply::lay(
+        sync_ledger::read_header(&flash).map(reply_log::header_row),
         answer,
     )
 }
@@ -24,7 +31,8 @@ pub fn stipeflute_bit_location(capacity_bytes: u32, flight_id: u32, answer: &mut
     ensures value { result ≡ row_reply 5 answer.old (laid bit_row (bit_location capacity_bytes flight_id)) }
     ensures lent { answer.new ≡ row_after 5 answer.old (laid bit_row (bit_location capacity_bytes flight_id)) }
 {
-    reply_log::lay_bit(sync_ledger::bit_location(capacity_bytes, flight_id), answer)
+    let place = sync_ledger::bit_location(capacity_bytes, flight_id);
+    reply::lay(place.map(reply_log::bit_row), answer)
 }
 
 pub fn stipeflute_is_synced(
@@ -37,10 +45,13 @@ pub fn stipeflute_is_synced(
     ensures value { result ≡ row_reply 1 answer.old (laid flag_row (is_synced capacity_bytes image.now faults.now flight_id)) }
     ensures lent { answer.new ≡ row_after 1 answer.old (laid flag_row (is_synced capacity_bytes image.now faults.now flight_id)) }
 {
-    reply_log::lay_yes_no(
-        sync_ledger::is_synced(capacity_bytes, image, faults, flight_id),
-        answer,
-    )
+    let flash = Flash {
+        capacity_bytes,
+        image,
+        faults,
+    };
+    let synced = sync_ledger::is_synced(&flash, flight_id);
+    reply::lay(synced.map(reply_log::flag_row), answer)
 }
 
 pub fn stipeflute_next_mark_step(
@@ -53,10 +64,13 @@ pub fn stipeflute_next_mark_step(
     ensures value { result ≡ row_reply 6 answer.old (laid step_row (next_mark_step capacity_bytes image.now faults.now flight_id)) }
     ensures lent { answer.new ≡ row_after 6 answer.old (laid step_row (next_mark_step capacity_bytes image.now faults.now flight_id)) }
 {
-    reply_log::lay_step(
-        sync_ledger::next_mark_step(capacity_bytes, image, faults, flight_id),
-        answer,
-    )
+    let flash = Flash {
+        capacity_bytes,
+        image,
+        faults,
+    };
+    let step = sync_ledger::next_mark_step(&flash, flight_id);
+    reply::lay(step.map(reply_log::step_row), answer)
 }
 
 pub fn stipeflute_start_mark_step(
@@ -87,11 +101,14 @@ pub fn stipeflute_all_synced(
     ensures value { result ≡ row_reply 1 answer.old (laid flag_row (all_synced capacity_bytes image.now faults.now used_pages (recording_of is_recording recording))) }
     ensures lent { answer.new ≡ row_after 1 answer.old (laid flag_row (all_synced capacity_bytes image.now faults.now used_pages (recording_of is_recording recording))) }
 {
+    let flash = Flash {
+        capacity_bytes,
+        image,
+        faults,
+    };
     let recorded = reply_log::recording_of(is_recording, recording);
-    reply_log::lay_yes_no(
-        log_sync::all_synced(capacity_bytes, image, faults, used_pages, recorded),
-        answer,
-    )
+    let all = log_sync::all_synced(&flash, used_pages, recorded);
+    reply::lay(all.map(reply_log::flag_row), answer)
 }
 
 pub fn stipeflute_check_ack(
@@ -106,14 +123,11 @@ pub fn stipeflute_check_ack(
 ) -> u32
     ensures { result ≡ reply_of (ack_checked capacity_bytes image.now faults.now used_pages (recording_of is_recording recording) flight_id pages) }
 {
-    let recorded = reply_log::recording_of(is_recording, recording);
-    reply::done(log_sync::check_ack(
+    let flash = Flash {
         capacity_bytes,
         image,
         faults,
-        used_pages,
-        recorded,
-        flight_id,
-        pages,
-    ))
+    };
+    let recorded = reply_log::recording_of(is_recording, recording);
+    reply::done(log_sync::check_ack(&flash, used_pages, recorded, flight_id, pages))
 }

@@ -5,7 +5,9 @@ ghost use Rattle.log_sync.specs.Sync.{unsynced_flights};
 ghost use Rattle.log_lines.specs.Lines.{ack_text};
 ghost use Rattle.reply.specs.Reply.{row_reply, row_after, laid};
 ghost use Rattle.reply_log.specs.LogRows.{recording_of};
-ghost use Rattle.reply_text.specs.TextRows.{told_list, list_row, text_row, lines_of};
+ghost use Rattle.reply_text.specs.TextRows.{list_row, text_row, lines_of};
+
+use store::Flash;
 
 pub fn stipeflute_unsynced_flights(
     capacity_bytes: u32,
@@ -16,24 +18,29 @@ pub fn stipeflute_unsynced_flights(
     recording: u32,
     answer: &mut [u8],
 ) -> u32
-    ensures value { result ≡ row_reply 98 answer.old (laid list_row (told_list (unsynced_flights capacity_bytes image.now faults.now used_pages (recording_of is_recording recording)))) }
-    ensures lent { answer.new ≡ row_after 98 answer.old (laid list_row (told_list (unsynced_flights capacity_bytes image.now faults.now used_pages (recording_of is_recording recording)))) }
+    ensures value { result ≡ row_reply 98 answer.old (laid list_row (unsynced_flights capacity_bytes image.now faults.now used_pages (recording_of is_recording recording))) }
+    ensures lent { answer.new ≡ row_after 98 answer.old (laid list_row (unsynced_flights capacity_bytes image.now faults.now used_pages (recording_of is_recording recording))) }
 {
+    let flash = Flash {
+        capacity_bytes,
+        image,
+        faults,
+    };
     let recorded = reply_log::recording_of(is_recording, recording);
-    let list = log_sync::unsynced_flights(capacity_bytes, image, faults, used_pages, recorded);
-    reply_text::lay_list(list, answer)
+    let list = log_sync::unsynced_flights(&flash, used_pages, recorded);
+    reply::lay(list.map(reply_text::list_row), answer)
 }
 
 pub fn stipeflute_unsynced_lines(flights: &[u8], count: u32, more: u8, answer: &mut [u8]) -> u32
     ensures value { result ≡ row_reply 476 answer.old (laid (text_row 472) (lines_of flights.now count more)) }
     ensures lent { answer.new ≡ row_after 476 answer.old (laid (text_row 472) (lines_of flights.now count more)) }
 {
-    reply_text::lay_unsynced_lines(flights, count, more, answer)
+    reply::lay(reply_text::unsynced_lines_row(flights, count, more), answer)
 }
 
 pub fn stipeflute_ack_response(number: u8, answer: &mut [u8]) -> u32
     ensures value { result ≡ row_reply 60 answer.old (gives (text_row 56 (ack_text number))) }
     ensures lent { answer.new ≡ row_after 60 answer.old (gives (text_row 56 (ack_text number))) }
 {
-    reply_text::lay_ack_response(number, answer)
+    reply::lay(Ok(reply_text::ack_response_row(number)), answer)
 }

@@ -5,7 +5,7 @@ ghost use Rattle.log_sync.specs.Sync.{unsynced_flights};
 ghost use Rattle.log_lines.specs.Lines.{ack_text};
 ghost use Rattle.reply.specs.Reply.{row_reply, row_after, laid};
 ghost use Rattle.reply_log.specs.LogRows.{recording_of};
-ghost use Rattle.reply_text.specs.TextRows.{told_list, list_row, text_row, lines_of};
+ghost use Rattle.reply_text.specs.TextRows.{list_row, text_row, lines_of};
 
 use stipeflute::text;
 
@@ -19,8 +19,8 @@ pub extern "C" fn stipeflute_unsynced_flights(
     recording: u32,
     answer: &mut [u8],
 ) -> u32
-    ensures value { result ≡ row_reply 98 answer.old (laid list_row (told_list (unsynced_flights capacity_bytes image.now faults.now used_pages (recording_of is_recording recording)))) }
-    ensures lent { answer.new ≡ row_after 98 answer.old (laid list_row (told_list (unsynced_flights capacity_bytes image.now faults.now used_pages (recording_of is_recording recording)))) }
+    ensures value { result ≡ row_reply 98 answer.old (laid list_row (unsynced_flights capacity_bytes image.now faults.now used_pages (recording_of is_recording recording))) }
+    ensures lent { answer.new ≡ row_after 98 answer.old (laid list_row (unsynced_flights capacity_bytes image.now faults.now used_pages (recording_of is_recording recording))) }
 {
     text::stipeflute_unsynced_flights(
         capacity_bytes,

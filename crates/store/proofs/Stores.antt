@@ -1,172 +1,87 @@
--- The ways out of a read, a program and an erase: what each answers, and what it leaves in the lent bytes. Assumes nothing.
-use Prim.Native.Nat.{ℕ, ◌+◌, ◌-◌, ◌/◌, ◌≤◌}
+-- The ends of a call on lent bytes: what it answers and what it leaves there, by what it stores. Assumes nothing.
+use Prim.Native.Nat.{ℕ, ◌+◌, ◌≤◌}
 use mathlib.Core.Path.{◌≡◌, refl, sym, ap, ◌∙◌}
 use mathlib.Core.Bool.{Bool, true, false, cond}
-use mathlib.Core.List.{List, ◌++◌, append-nil}
+use mathlib.Core.List.{List}
 use native.Mathlib.Omega.{arith}
 use borrow.Author.Tests.{eq-eqb, ne_eqb}
+use borrow.Rule.Slice.PartMut.{put_mid}
+use lib.ListN.{length, take, drop, replicate, length-replicate, length-drop}
+use lib.Seq.{length-take-le}
 use lib.Dec.{eqb}
-use lib.ListN.{length, take, drop, replicate, length-drop, drop_of_length-le}
-use lib.Seq.{length-take-le, take-length}
-use Rattle.laws.specs.Refusals.{device, bad_length}
-use Rattle.laws.specs.Answers.{Answer, gives, refuses, refusal, then, told_done}
-use Rattle.laws.specs.declared.Refusal.{Refusal}
-use Rattle.words.specs.Words.{placed}
+use Rattle.std.proofs.lemmas.Slice.{put_mid-paste}
+use Rattle.laws.specs.Refusals.{device}
+use Rattle.laws.specs.Answers.{Answer, gives, refuses, must}
+use Rattle.laws.proofs.Choice.{cond_true}
+use Rattle.layout.proofs.Capacity.{valid}
 use Rattle.words.proofs.Numbers.{placed_fits}
-use Rattle.store.specs.Store.{on_image, on_store, on_mask, done, leaves, replied}
-use Rattle.store.specs.Store.{fault_at, read_of, part, in_one_page, bytes_read, read_told, after_read}
-use Rattle.store.specs.Store.{mask, programmed, program_stores, program_told, after_program, is_sector}
-use Rattle.store.specs.Store.{blank_sector, erased, erase_stores, erase_told, after_erase}
-use Rattle.laws.specs.declared.DoneAnswer.{DoneAnswer}
-use Rattle.laws.specs.declared.DoneAnswer.TheVariants.{Done, Refused}
-use Rattle.store.proofs.Checks.{on_image_lem, image_refused, image_held, lengths_refused, lengths_held, lengths_passed, one_page}
+use Rattle.store.specs.Store.{on_image, on_lengths, done, leaves, replied, in_one_page, is_sector, blank_sector, erased}
+use Rattle.store.proofs.Checks.{held_image, held_lengths, one_page, sector, tested}
 
--- the end of a call: its answer is what the contract tells, and the lent bytes are what the contract leaves
-pub record Ends (a told : Answer (Unit {0})) (l after : List ℕ) : Type 0 where
-  pub answer : a ≡ told
-  pub left : l ≡ after
+-- ---- a test that the code holds as a bool
 
-pub ends : {a told : Answer (Unit {0})} {l after : List ℕ} → Ends a told l after → record { value : a ≡ told; lent : l ≡ after }
-ends e = record { value = e.answer; lent = e.left }
+module _ {A : Type 0} (b test : Bool) (n : ℕ) (rest : Answer A) (e : b ≡ test) where
+  pub test_failed : b ≡ false → refuses n 0 ≡ must test n rest
+  test_failed h = rw (← e, h) refl
 
--- ---- a refusal, and a reply
+  pub test_held : (given : Answer A) → b ≡ true → given ≡ rest → given ≡ must test n rest
+  test_held given h g = g ∙ rw (← e, h) refl
 
--- a refused read leaves the output as it was
-stays_read : (a : Answer (List ℕ)) (old : List ℕ) (n x : ℕ) → refuses n x ≡ a → Ends (refuses n x) (done a) old (leaves old a)
-stays_read a old n x e = record { answer = rw (← e) refl; left = rw (← e) refl }
+-- ---- what a call answers
 
-stays : (a : Answer (List ℕ)) (old : List ℕ) (reply n x : ℕ) → refuses n x ≡ a → Ends (refuses n x) (then a (λ _. replied reply)) old (leaves old a)
-stays a old reply n x e = record { answer = rw (← e) refl; left = rw (← e) refl }
+module _ {A : Type 0} where
+  pub done_refused : (a : Answer A) (n x : ℕ) → refuses n x ≡ a → refuses n x ≡ done a
+  done_refused a n x e = rw (← e) refl
 
--- the same with the refusal that the code holds
-refused_read : (a : Answer (List ℕ)) (old : List ℕ) (r : Refusal) (n x : ℕ) → r ≡ refusal n x → refuses n x ≡ a
-    → Ends (told_done (Refused r)) (done a) old (leaves old a)
-refused_read a old r n x w e =
-    let s : r.number ≡ n = ap (λ (r : Refusal). r.number) w in
-    let t : r.fault ≡ x = ap (λ (r : Refusal). r.fault) w in
-    stays_read a old r.number r.fault (rw (s, t) e)
+  pub done_given : (a : Answer A) (v : A) → gives v ≡ a → gives tt ≡ done a
+  done_given a v e = rw (← e) refl
 
-refused : (a : Answer (List ℕ)) (old : List ℕ) (reply : ℕ) (r : Refusal) (n x : ℕ) → r ≡ refusal n x → refuses n x ≡ a
-    → Ends (told_done (Refused r)) (then a (λ _. replied reply)) old (leaves old a)
-refused a old reply r n x w e =
-    let s : r.number ≡ n = ap (λ (r : Refusal). r.number) w in
-    let t : r.fault ≡ x = ap (λ (r : Refusal). r.fault) w in
-    stays a old reply r.number r.fault (rw (s, t) e)
-
--- what was stored, with a fault and without
-failed : (a : Answer (List ℕ)) (old new : List ℕ) (reply : ℕ) (r : Refusal) → gives new ≡ a → (reply ≡ 0 → ⊥) → r ≡ refusal device reply
-    → Ends (told_done (Refused r)) (then a (λ _. replied reply)) new (leaves old a)
+-- a device's reply
+pub reply_fault : (reply : ℕ) → (reply ≡ 0 → ⊥) → refuses device reply ≡ replied reply
 unfolding replied
-failed a old new reply r e h w = record { answer = rw (← e, w, ne_eqb reply 0 h) refl; left = rw (← e) refl }
+reply_fault reply h = rw (ne_eqb reply 0 h) refl
 
-succeeded : (a : Answer (List ℕ)) (old new : List ℕ) (reply : ℕ) → gives new ≡ a → reply ≡ 0
-    → Ends (told_done Done) (then a (λ _. replied reply)) new (leaves old a)
+pub reply_well : (reply : ℕ) → reply ≡ 0 → gives tt ≡ replied reply
 unfolding replied
-succeeded a old new reply e h = record { answer = rw (← e, eq-eqb reply 0 h) refl; left = rw (← e) refl }
+reply_well reply h = rw (eq-eqb reply 0 h) refl
 
--- ---- a read
+-- ---- what it leaves in the lent bytes
 
--- bytes as many as the output has take its place
-filled : (out new : List ℕ) → length new ≡ length out → placed out 0 new ≡ new
-filled out new h =
-    placed_fits out 0 new (omega arith)
-    ∙ ap (λ (l : List ℕ). take (length new) new ++ l) (drop_of_length-le out {i = 0 + length new} (omega arith))
-    ∙ append-nil (take (length new) new)
-    ∙ take-length new
+module _ {A : Type 0} (old : A) (a : Answer A) where
+  pub leaves_old : (n x : ℕ) → refuses n x ≡ a → old ≡ leaves old a
+  leaves_old n x e = rw (← e) refl
 
-module _ (c : ℕ) (m f : List ℕ) (a : ℕ) (out : List ℕ) (s : DoneAnswer) (e : told_done s ≡ on_store c (length m) (length f) (gives tt)) where
-  pub read_untested : (x : Refusal) → s ≡ Refused x → Ends (told_done (Refused x)) (read_told c m f a out) out (after_read c m f a out)
-  unfolding bytes_read
-  read_untested x w = stays_read (bytes_read c m f a (length out)) out x.number x.fault (lengths_refused c (length m) (length f) (c / 256) s e _ x w)
+  pub leaves_new : (v new : A) → gives v ≡ a → new ≡ v → new ≡ leaves old a
+  leaves_new v new e h = h ∙ rw (← e) refl
 
-  module _ (ok : s ≡ Done) (b : Bool) (p : b ≡ in_one_page c a (length out)) where
-    pub read_crosses : (r : Refusal) → b ≡ false → r ≡ refusal bad_length 0 → Ends (told_done (Refused r)) (read_told c m f a out) out (after_read c m f a out)
-    unfolding bytes_read
-    read_crosses r h w =
-        refused_read (bytes_read c m f a (length out)) out r bad_length 0 w
-        (sym (lengths_passed c (length m) (length f) (c / 256) s e _ ok ∙ rw (← p, h) refl))
+-- ---- where it reads and writes
 
-    module _ (h : b ≡ true) (x : ℕ) (q : x ≡ fault_at f a) where
-      reads : bytes_read c m f a (length out) ≡ read_of f a (part a (length out) m)
-      unfolding bytes_read
-      reads = lengths_passed c (length m) (length f) (c / 256) s e _ ok ∙ rw (← p, h) refl
+pub part_fits : {A : Type 0} (c n l w : ℕ) (one x : A) (a k : ℕ) (b : Bool) → gives x ≡ on_lengths c n l w (gives one) → b ≡ in_one_page c a k → b ≡ true
+    → a + k ≤ n
+part_fits c n l w one x a k b e p h = omega (arith, one_page c a k (sym p ∙ h), (held_lengths c n l w (gives one) x (sym e)).1)
 
-      pub read_faulty : (r : Refusal) → (x ≡ 0 → ⊥) → r ≡ refusal device x → Ends (told_done (Refused r)) (read_told c m f a out) out (after_read c m f a out)
-      unfolding read_of
-      read_faulty r n w = refused_read (bytes_read c m f a (length out)) out r device x w (sym (reads ∙ rw (← q, ne_eqb x 0 n) refl))
+pub sector_fits : {A : Type 0} (c n : ℕ) (one x : A) (a : ℕ) (b : Bool) → gives x ≡ on_image c n (gives one) → b ≡ is_sector c a → b ≡ true
+    → a + 4096 ≤ n
+sector_fits c n one x a b e p h =
+    let k = held_image c n (gives one) x (sym e) in
+    let v = valid c k.0 in
+    omega (arith, sector c a (sym p ∙ h), k.1)
 
-      pub part_there : a + length out ≤ length m
-      part_there = omega (arith, one_page c a (length out) (sym p ∙ h), (lengths_held c (length m) (length f) (c / 256) s e ok).1)
+-- a sector that was filled
+module _ (m : List ℕ) (a reply k : ℕ) (s : List ℕ) where
+  filled : a + 4096 ≤ length m → k ≡ 4096 → s ≡ replicate (length (take k (drop a m))) 255 → put_mid a k m s ≡ erased m a
+  unfolding erased blank_sector
+  filled h e w =
+      let blank : List ℕ = replicate 4096 255 in
+      let long : length blank ≡ 4096 = length-replicate {A = ℕ} 4096 255 in
+      let part : length (take k (drop a m)) ≡ 4096 = length-take-le k (drop a m) (omega (arith, length-drop a m)) ∙ e in
+      put_mid-paste a k m s blank (length blank) (w ∙ ap (λ (j : ℕ). replicate j 255) part) (long ∙ sym e) refl
+      ∙ sym (placed_fits m a blank (omega (arith, long)))
 
-      pub read_well : (new : List ℕ) → x ≡ 0 → new ≡ placed out 0 (take (a + length out - a) (drop a m))
-          → Ends (told_done Done) (read_told c m f a out) new (after_read c m f a out)
-      unfolding read_of
-      read_well new n w =
-          let width : a + length out - a ≡ length out = omega arith in
-          let long : length (part a (length out) m) ≡ length out = length-take-le (length out) (drop a m) (omega (arith, part_there, length-drop a m)) in
-          let given : bytes_read c m f a (length out) ≡ gives (part a (length out) m) = reads ∙ rw (← q, eq-eqb x 0 n) refl in
-          let is : new ≡ part a (length out) m = w ∙ ap (λ (n : ℕ). placed out 0 (take n (drop a m))) width ∙ filled out (part a (length out) m) long in
-          record { answer = rw given refl; left = rw given is }
+  pub sector_put : reply ≡ 0 → a + 4096 ≤ length m → k ≡ 4096 → s ≡ replicate (length (take k (drop a m))) 255
+      → put_mid a k m s ≡ cond (eqb reply 0) (erased m a) m
+  sector_put r h e w = filled h e w ∙ sym (cond_true (eqb reply 0) (erased m a) m (eq-eqb reply 0 r))
 
--- ---- a program
-
-module _ (c : ℕ) (m : List ℕ) (a : ℕ) (t k : List ℕ) (reply : ℕ) (s : DoneAnswer) (e : told_done s ≡ on_mask c (length m) (length k) (gives tt)) where
-  pub program_untested : (x : Refusal) → s ≡ Refused x → Ends (told_done (Refused x)) (program_told c m a t k reply) m (after_program c m a t k reply)
-  unfolding program_stores
-  program_untested x w = stays (program_stores c m a t k reply) m reply x.number x.fault (lengths_refused c (length m) (length k) 256 s e _ x w)
-
-  module _ (ok : s ≡ Done) (b : Bool) (p : b ≡ in_one_page c a (length t)) where
-    pub program_crosses : (r : Refusal) → b ≡ false → r ≡ refusal bad_length 0
-        → Ends (told_done (Refused r)) (program_told c m a t k reply) m (after_program c m a t k reply)
-    unfolding program_stores
-    program_crosses r h w =
-        refused (program_stores c m a t k reply) m reply r bad_length 0 w
-        (sym (lengths_passed c (length m) (length k) 256 s e _ ok ∙ rw (← p, h) refl))
-
-    module _ (h : b ≡ true) where
-      pub target_fits : a + length t ≤ length m
-      target_fits = omega (arith, one_page c a (length t) (sym p ∙ h), (lengths_held c (length m) (length k) 256 s e ok).1)
-
-      module _ (new : List ℕ) (w : new ≡ programmed m a t (mask (eqb reply 0) k)) where
-        stored : gives new ≡ program_stores c m a t k reply
-        unfolding program_stores
-        stored = sym (lengths_passed c (length m) (length k) 256 s e _ ok ∙ rw (← p, h, w) refl)
-
-        pub program_fails : (r : Refusal) → (reply ≡ 0 → ⊥) → r ≡ refusal device reply
-            → Ends (told_done (Refused r)) (program_told c m a t k reply) new (after_program c m a t k reply)
-        program_fails r n v = failed (program_stores c m a t k reply) m new reply r stored n v
-
-        pub program_succeeds : reply ≡ 0 → Ends (told_done Done) (program_told c m a t k reply) new (after_program c m a t k reply)
-        program_succeeds n = succeeded (program_stores c m a t k reply) m new reply stored n
-
--- ---- an erase
-
-module _ (c : ℕ) (m : List ℕ) (a reply : ℕ) (s : DoneAnswer) (e : told_done s ≡ on_image c (length m) (gives tt)) where
-  pub erase_untested : (x : Refusal) → s ≡ Refused x → Ends (told_done (Refused x)) (erase_told c m a reply) m (after_erase c m a reply)
-  unfolding erase_stores
-  erase_untested x w = stays (erase_stores c m a reply) m reply x.number x.fault (image_refused c (length m) s e _ x w)
-
-  module _ (ok : s ≡ Done) (b : Bool) (p : b ≡ is_sector c a) where
-    pub erase_misplaced : (r : Refusal) → b ≡ false → r ≡ refusal bad_length 0
-        → Ends (told_done (Refused r)) (erase_told c m a reply) m (after_erase c m a reply)
-    unfolding erase_stores
-    erase_misplaced r h w =
-        let held = image_held c (length m) s e ok in
-        refused (erase_stores c m a reply) m reply r bad_length 0 w
-        (sym (on_image_lem c (length m) _ held.0 held.1 ∙ rw (← p, h) refl))
-
-    module _ (h : b ≡ true) where
-      stores : (q : Bool) → eqb reply 0 ≡ q → gives (cond q (erased m a) m) ≡ erase_stores c m a reply
-      unfolding erase_stores
-      stores q n =
-          let held = image_held c (length m) s e ok in
-          sym (on_image_lem c (length m) _ held.0 held.1 ∙ rw (← p, h, n) refl)
-
-      pub erase_fails : (r : Refusal) → (reply ≡ 0 → ⊥) → r ≡ refusal device reply
-          → Ends (told_done (Refused r)) (erase_told c m a reply) m (after_erase c m a reply)
-      erase_fails r n v = failed (erase_stores c m a reply) m m reply r (stores false (ne_eqb reply 0 n)) n v
-
-      pub erase_succeeds : (new : List ℕ) → reply ≡ 0 → new ≡ placed m a (replicate 4096 255)
-          → Ends (told_done Done) (erase_told c m a reply) new (after_erase c m a reply)
-      unfolding erased blank_sector
-      erase_succeeds new n w = succeeded (erase_stores c m a reply) m new reply (ap gives w ∙ stores true (eq-eqb reply 0 n)) n
+-- what `search` is given at a call on lent bytes
+pub ruleset ends =
+    (tested, test_failed, test_held, done_refused, done_given, reply_fault, reply_well, leaves_old, leaves_new, part_fits, sector_fits)

@@ -2,13 +2,15 @@
 -- Assumes nothing.
 use mathlib.Core.Path.{◌≡◌, refl, sym, ap, ap₂, ◌∙◌}
 use mathlib.Core.List.{List, [], ◌∷◌, ◌++◌, append_assoc}
-use Prim.Native.Nat.{ℕ, zero, suc, ◌+◌, ◌-◌, ◌*◌, ◌/◌, ◌%◌, ◌^◌, ◌≤◌, ◌<◌}
+use Prim.Native.Nat.{ℕ, zero, suc, ◌+◌, ◌*◌, ◌/◌, ◌%◌, ◌^◌, ◌≤◌, ◌<◌}
 use native.Mathlib.Omega.{arith}
 use native.Mathlib.Nat.{add-zero, add_assoc}
-use native.Mathlib.Numerals.{add-one, add-two, add-three}
-use lib.ListN.{length, take, drop, get_or, set, replicate, length-append, drop_of_length-le}
+use native.Mathlib.Numerals.{add-one, add-two, add-three, unary_clauses}
+use lib.ListN.{length, take, drop, get_or, replicate, length-append, drop_of_length-le}
 use borrow.Author.Tests.{le-leb, lt-leb}
-use lib.Seq.{get_or-drop, drop-drop, take-nil, take-length, paste, paste-suc, length-paste, take-paste, drop-paste}
+use lib.Seq.{get_or-drop, drop-drop, take-nil, take-length, paste, length-paste, take-paste, drop-paste}
+use Rattle.std.specs.Int.{byte_at, bytes_low_first}
+use Rattle.std.proofs.Math.Nat.{div-div-eq-div-mul}
 use Rattle.words.specs.Words.{Bytes, le_value, le_bytes, le_at, u16_at, u32_at, placed}
 
 -- ---- bytes
@@ -65,7 +67,47 @@ u32_bytes l at =
     rw (at_more 3 l at, at_more 2 l (suc at), at_more 1 l (suc (suc at)), at_more 0 l (suc (suc (suc at))), at_none, add-one, add-two, add-three)
     (omega arith)
 
+halves : (l : List ℕ) (at : ℕ) → le_at 8 l at ≡ u32_at l at + 2 ^ 32 * u32_at l (at + 4)
+halves l at =
+    let after : suc (suc (suc (suc at))) ≡ at + 4 = omega arith in
+    rw (
+      at_more 7 l at,
+      at_more 6 l (suc at),
+      at_more 5 l (suc (suc at)),
+      at_more 4 l (suc (suc (suc at))),
+      at_more 3 l at,
+      at_more 2 l (suc at),
+      at_more 1 l (suc (suc at)),
+      at_more 0 l (suc (suc (suc at))),
+      at_none,
+      after,
+    )
+    (omega arith)
+
+pub u64_bytes : (l : List ℕ) (at : ℕ)
+    → le_at 8 l at ≡ u32_at l at + 2 ^ 32 * (get_or l (at + 4) 0 + 256 * (get_or l (at + 5) 0 + 256 * (get_or l (at + 6) 0 + 256 * get_or l (at + 7) 0)))
+u64_bytes l at =
+    let five : at + 4 + 1 ≡ at + 5 = omega arith in
+    let six : at + 4 + 2 ≡ at + 6 = omega arith in
+    let seven : at + 4 + 3 ≡ at + 7 = omega arith in
+    rw (halves l at, u32_bytes l (at + 4), five, six, seven)
+
 -- ---- writing and reading back
+
+-- what a number's own `to_le_bytes` gives, from byte i on
+from_byte : (i k v : ℕ) → bytes_low_first i k v ≡ le_bytes k (v / 256 ^ i)
+unfolding le_bytes
+from_byte i zero v = refl
+from_byte i (suc k) v =
+    let rest : v / 256 ^ i / 256 ≡ v / 256 ^ suc i = simp unary_clauses (div-div-eq-div-mul v (256 ^ i) 256) in
+    ap₂ {C = List ℕ} (λ (b : ℕ) (l : List ℕ). b ∷ l) (this i) (from_byte (suc i) k v ∙ ap (le_bytes k) (sym rest))
+  where
+    this : (j : ℕ) → byte_at j v ≡ v / 256 ^ j % 256
+    this zero = omega arith
+    this (suc j) = refl
+
+pub bytes_written : (k v : ℕ) → bytes_low_first 0 k v ≡ le_bytes k v
+bytes_written k v = from_byte 0 k v ∙ ap (le_bytes k) {x = v / 1} {y = v} (omega arith)
 
 pub length_le_bytes : (k v : ℕ) → length (le_bytes k v) ≡ k
 unfolding le_bytes
@@ -85,17 +127,8 @@ value_le_bytes (suc k) v h =
     let below : v / 256 < 256 ^ k = omega arith in
     rw (value_le_bytes k (v / 256) below) (omega arith)
 
--- what a number's bytes are from an index on, byte by byte
-module _ (n v i rest : ℕ) (h : i < n) (e : drop i (le_bytes n v) ≡ le_bytes (n - i) rest) where
-  more : drop i (le_bytes n v) ≡ rest % 256 ∷ le_bytes (n - (i + 1)) (rest / 256)
-  unfolding le_bytes
-  more = e ∙ ap (λ (k : ℕ). le_bytes k rest) {x = n - i} {y = suc (n - (i + 1))} (omega arith)
-
-  pub next_byte_lem : get_or (le_bytes n v) i 0 ≡ rest % 256
-  next_byte_lem = ap (λ (j : ℕ). get_or (le_bytes n v) j 0) (sym (add-zero i)) ∙ sym (get_or-drop i (le_bytes n v) 0 0) ∙ ap (λ (l : List ℕ). get_or l 0 0) more
-
-  pub next_rest : (next : ℕ) → next ≡ rest / 256 → drop (i + 1) (le_bytes n v) ≡ le_bytes (n - (i + 1)) next
-  next_rest next q = sym (drop-drop 1 i (le_bytes n v)) ∙ ap (drop 1) more ∙ ap (le_bytes (n - (i + 1))) (sym q)
+pub bytes_laid : (l new bs : List ℕ) (at k v : ℕ) → new ≡ placed l at bs → bs ≡ bytes_low_first 0 k v → new ≡ placed l at (le_bytes k v)
+bytes_laid l new bs at k v e h = e ∙ ap (placed l at) (h ∙ bytes_written k v)
 
 -- bytes are written back as they were
 pub le_bytes_value : (k : ℕ) (l : List ℕ) → length l ≡ k → Bytes l → le_bytes k (le_value l) ≡ l
@@ -123,11 +156,6 @@ unfolding le_at le_value
 past_end k l at h = rw (drop_of_length-le l {i = at} h, take-nil {A = ℕ} k) refl
 
 -- ---- bytes placed in a list
-
--- one byte more
-pub put_turn : (l out b : List ℕ) (at i place byte : ℕ) → at + i < length l → i < length b → out ≡ paste l at b i → place ≡ at + i
-    → byte ≡ get_or b i 0 → set out place byte ≡ paste l at b (i + 1)
-put_turn l out b at i place byte h k e p q = rw (e, p, q, add-one i) (paste-suc l at b i 0 h k)
 
 pub placed_fits : (l : List ℕ) (at : ℕ) (b : List ℕ) → at + length b ≤ length l → placed l at b ≡ paste l at b (length b)
 unfolding placed

@@ -2,169 +2,158 @@
 // offset: a byte past the end reads as 0, and bytes that do not fit are not written.
 #![tactic(auto)]
 
-ghost use Rattle.std.specs.Prelude.{◌≡◌, ◌%◌, ◌/◌, get_or};
-ghost use Rattle.words.specs.Words.{le_bytes, u16_at, u32_at, signed16, bits16, placed, same_bytes};
+ghost use Rattle.std.specs.Prelude.{◌≡◌, ℕ, List, get_or};
+ghost use Rattle.words.specs.Words.{le_bytes, le_at, u16_at, u32_at, signed16, bits16, placed, same_bytes};
 
 // The byte at an offset, 0 past the end.
 pub fn byte_at(s: &[u8], at: usize) -> u8
     ensures { result ≡ get_or s.now at 0 }
 {
-    if at < s.len() { s[at] } else { 0 }
-}
-
-fn wide(b: u8) -> u32
-    ensures { result ≡ b }
-{
-    b as u32
-}
-
-fn low(v: u32) -> u8
-    ensures { result ≡ v % 256 }
-{
-    (v % 256) as u8
-}
-
-// The number that two bytes write at an offset.
-pub fn u16_at(s: &[u8], at: usize) -> u16
-    ensures { result ≡ u16_at s.now at }
-{
-    if s.len() <= at {
-        return 0;
-    }
-    let a = byte_at(s, at) as u16;
-    let b = byte_at(s, at + 1) as u16;
-    a + 256 * b
-}
-
-// The number that four bytes write at an offset.
-pub fn u32_at(s: &[u8], at: usize) -> u32
-    ensures { result ≡ u32_at s.now at }
-{
-    if s.len() <= at {
-        return 0;
-    }
-    let a = wide(byte_at(s, at));
-    let b = wide(byte_at(s, at + 1));
-    let c = wide(byte_at(s, at + 2));
-    let d = wide(byte_at(s, at + 3));
-    a + 256 * (b + 256 * (c + 256 * d))
+    s.get(at).copied().unwrap_or(0)
 }
 
 // The four bytes of a number.
 pub fn u32_bytes(v: u32) -> [u8; 4]
     ensures { result ≡ le_bytes 4 v }
 {
-    let second = v / 256;
-    let third = second / 256;
-    let fourth = third / 256;
-    [low(v), low(second), low(third), low(fourth)]
+    v.to_le_bytes()
 }
 
-// The signed number that 16 bits write.
+// The signed number that 16 bits write. The library's own call, here and in `to_u16` and `u32_bytes`, under a contract in document 01's words.
 pub fn to_i16(v: u16) -> i16
     ensures { result ≡ signed16 v }
 {
-    if v < 32768 {
-        v as i16
-    } else {
-        !((65535 - v) as i16)
-    }
+    v.cast_signed()
 }
 
 // The 16 bits that write a signed number.
 pub fn to_u16(z: i16) -> u16
     ensures { result ≡ bits16 z }
 {
-    if z < 0 {
-        65535 - ((!z) as u16)
-    } else {
-        z as u16
-    }
-}
-
-// The signed number that two bytes write at an offset.
-pub fn i16_at(s: &[u8], at: usize) -> i16
-    ensures { result ≡ signed16 (u16_at s.now at) }
-{
-    to_i16(u16_at(s, at))
+    z.cast_unsigned()
 }
 
 // Bytes written from an offset on, or nothing where they do not fit.
 pub fn put_bytes(out: &mut [u8], at: usize, b: &[u8])
     ensures { out.new ≡ placed out.old at b.now }
 {
-    if out.len() < at {
-        return;
-    }
-    if out.len() - at < b.len() {
-        return;
-    }
-    let mut i = 0;
-    while i < b.len() {
-        out[at + i] = b[i];
-        i += 1;
+    if at <= out.len() && b.len() <= out.len() - at {
+        out[at..at + b.len()].copy_from_slice(b);
     }
 }
 
-// The n low bytes of a number, the low byte first, written from an offset on, or nothing where they do not fit.
-fn put_number(out: &mut [u8], at: usize, v: u64, n: usize)
-    ensures { out.new ≡ placed out.old at (le_bytes n v) }
+// A number that a few bytes write.
+pub trait Number {
+    // The bytes that write it.
+    ghost bytes: { Self → List ℕ };
+
+    // The number that the bytes at an offset write.
+    ghost read: { List ℕ → ℕ → Self };
+
+    fn put(self, out: &mut [u8], at: usize)
+        ensures { out.new ≡ placed out.old at (bytes self) };
+
+    fn read_at(s: &[u8], at: usize) -> Self
+        ensures { result ≡ read s.now at };
+}
+
+impl Number for u16 {
+    ghost bytes = { le_bytes 2 };
+
+    ghost read = { u16_at };
+
+    fn put(self, out: &mut [u8], at: usize) {
+        put_bytes(out, at, &self.to_le_bytes());
+    }
+
+    fn read_at(s: &[u8], at: usize) -> u16 {
+        if s.len() <= at {
+            return 0;
+        }
+        u16::from_le_bytes([byte_at(s, at), byte_at(s, at + 1)])
+    }
+}
+
+impl Number for u32 {
+    ghost bytes = { le_bytes 4 };
+
+    ghost read = { u32_at };
+
+    fn put(self, out: &mut [u8], at: usize) {
+        put_bytes(out, at, &u32_bytes(self));
+    }
+
+    fn read_at(s: &[u8], at: usize) -> u32 {
+        if s.len() <= at {
+            return 0;
+        }
+        u32::from_le_bytes([
+            byte_at(s, at),
+            byte_at(s, at + 1),
+            byte_at(s, at + 2),
+            byte_at(s, at + 3),
+        ])
+    }
+}
+
+impl Number for u64 {
+    ghost bytes = { le_bytes 8 };
+
+    ghost read = { le_at 8 };
+
+    fn put(self, out: &mut [u8], at: usize) {
+        put_bytes(out, at, &self.to_le_bytes());
+    }
+
+    fn read_at(s: &[u8], at: usize) -> u64 {
+        if s.len() <= at {
+            return 0;
+        }
+        u64::from_le_bytes([
+            byte_at(s, at),
+            byte_at(s, at + 1),
+            byte_at(s, at + 2),
+            byte_at(s, at + 3),
+            byte_at(s, at + 4),
+            byte_at(s, at + 5),
+            byte_at(s, at + 6),
+            byte_at(s, at + 7),
+        ])
+    }
+}
+
+impl Number for i16 {
+    ghost bytes = { λ z. le_bytes 2 (bits16 z) };
+
+    ghost read = { λ l at. signed16 (u16_at l at) };
+
+    fn put(self, out: &mut [u8], at: usize) {
+        self.cast_unsigned().put(out, at);
+    }
+
+    fn read_at(s: &[u8], at: usize) -> i16 {
+        u16::read_at(s, at).cast_signed()
+    }
+}
+
+// The bytes of a number written from an offset on, or nothing where they do not fit.
+pub fn put<N: Number>(out: &mut [u8], at: usize, v: N)
+    ensures { out.new ≡ placed out.old at (N.bytes v) }
 {
-    if out.len() < at {
-        return;
-    }
-    if out.len() - at < n {
-        return;
-    }
-    let mut rest = v;
-    let mut i = 0;
-    while i < n {
-        out[at + i] = (rest % 256) as u8;
-        rest = rest / 256;
-        i += 1;
-    }
+    v.put(out, at);
 }
 
-// The two bytes of a number written from an offset on.
-pub fn put_u16(out: &mut [u8], at: usize, v: u16)
-    ensures { out.new ≡ placed out.old at (le_bytes 2 v) }
+// The number that the bytes at an offset write.
+pub fn number_at<N: Number>(s: &[u8], at: usize) -> N
+    ensures { result ≡ N.read s.now at }
 {
-    put_number(out, at, v as u64, 2);
+    N::read_at(s, at)
 }
 
-// The four bytes of a number written from an offset on.
-pub fn put_u32(out: &mut [u8], at: usize, v: u32)
-    ensures { out.new ≡ placed out.old at (le_bytes 4 v) }
-{
-    put_number(out, at, v as u64, 4);
-}
-
-// The two bytes of a signed number written from an offset on.
-pub fn put_i16(out: &mut [u8], at: usize, z: i16)
-    ensures { out.new ≡ placed out.old at (le_bytes 2 (bits16 z)) }
-{
-    put_u16(out, at, to_u16(z));
-}
-
-// The eight bytes of a number written from an offset on.
-pub fn put_u64(out: &mut [u8], at: usize, v: u64)
-    ensures { out.new ≡ placed out.old at (le_bytes 8 v) }
-{
-    put_number(out, at, v, 8);
-}
-
-// Whether two slices hold the same bytes. No byte ends the loop, so that it goes by many at a time.
+// Whether two slices hold the same bytes.
+#[tactic(auto, using(crate::proofs::Same::pointwise_same))]
 pub fn same_bytes(a: &[u8], b: &[u8]) -> bool
     ensures { result ≡ same_bytes a.now b.now }
 {
-    if a.len() != b.len() {
-        return false;
-    }
-    let mut i = 0;
-    let mut differ: u8 = 0;
-    while i < a.len() {
-        differ = differ | (a[i] ^ b[i]);
-        i += 1;
-    }
-    differ == 0
+    a == b
 }

@@ -3,12 +3,8 @@ use mathlib.Core.Path.{◌≡◌, ap₂, ◌∙◌}
 use Prim.Native.Nat.{◌+◌, ◌*◌, ◌/◌, ◌%◌}
 use native.Mathlib.Omega.{arith}
 use Rattle.crc32.specs.Table.{digit_steps, Tabled}
-use borrow.Author.Rules.{rules}
+use Rattle.crc32.proofs.Table.{the_table}
 use Rattle.crc32.proofs.digit.Goals as goal
-
-pub bounds-table-place : goal.bounds-table-place
-unfolding Tabled
-bounds-table-place c = search rules
 
 pub returns : goal.returns
 unfolding Tabled
@@ -16,4 +12,4 @@ returns c =
     let k = 16 * c.args.place + c.args.v % 16 in
     let place : k / 16 ≡ c.args.place = omega arith in
     let low : k % 16 ≡ c.args.v % 16 = omega arith in
-    c.requires.tabled.1 k (omega arith) ∙ ap₂ digit_steps place low
+    the_table.1 k (omega arith) ∙ ap₂ digit_steps place low

@@ -1,12 +1,15 @@
--- `digits::decimal` meets its contract: the digits laid from the end, moved to the front. Assumes nothing.
+-- `digits::decimal` meets its contract. Assumes nothing.
+use mathlib.Core.Path.{ap, ◌∙◌}
+use mathlib.Core.List.{List, ◌++◌}
+use Prim.Native.Nat.{ℕ}
 use native.Mathlib.Omega.{arith}
-use Rattle.digits.proofs.Back.{moved}
+use lib.ListN.{take}
+use lib.Seq.{take_all}
+use Rattle.digits.specs.Decimal.{decimal_of}
+use Rattle.digits.proofs.Notation.{decimal_ten}
 use Rattle.digits.proofs.decimal.Goals as goal
-
-pub slice_bounds-put_bytes-end-2 : goal.slice_bounds-put_bytes-end-2
-slice_bounds-put_bytes-end-2 c = omega (arith, c.digits_back-tail.ensures.1)
 
 pub returns : goal.returns
 returns c =
-    let back = c.digits_back-tail.ensures in
-    moved _ _ _ _ back.1 back.0 back.2 c.put_bytes.ensures
+    c.push_number.ensures ∙ ap (λ (l : List ℕ). take 10 (l ++ decimal_of c.args.n)) c.new-digits.ensures
+    ∙ take_all 10 (decimal_of c.args.n) (decimal_ten c.args.n (omega arith))

@@ -1,7 +1,9 @@
--- `log_lines::count_line` meets its contract: its pieces are those of the law. Assumes nothing.
-use Rattle.log_lines.proofs.Growing.{count_made}
-use borrow.Author.Rules.{rules}
+-- `log_lines::count_line` meets its contract: its pieces are the line's. Assumes nothing.
+use native.Mathlib.Omega.{arith}
+use Rattle.log_lines.proofs.Fits.{flag_is, count_made}
 use Rattle.log_lines.proofs.count_line.Goals as goal
 
 pub returns : goal.returns
-returns c = search (count_made, rules)
+returns c =
+    rw (c.push-3.ensures, c.push_number-2.ensures, c.from.ensures, c.push-2.ensures, c.push_number.ensures)
+    (rw (c.push.ensures, c.new-line.ensures, flag_is c.args.more) (count_made c.args.count c.args.more (omega arith)))

@@ -1,15 +1,15 @@
--- `reply_assembler::play` meets its contract. The loop's invariant: what is left takes the last answer to the script's. Assumes nothing.
-use Prim.Native.Nat.{◌-◌, ◌*◌, ◌/◌, ◌≤◌}
-use mathlib.Core.Path.{◌≡◌}
-use lib.ListN.{length, drop}
+-- The loop of `reply_assembler::play`: what is left takes the last answer to the script's.
+use Rattle.std.proofs.Common.{◌≡◌, ◌/◌, length}
+use Rattle.std.specs.Slice.Iter.{chunks_exact_rest, chunks_exact_size}
 use Rattle.assembler.specs.WellFormed.{SoundAssembler}
 use Rattle.reply_assembler.specs.Script.{play_from, play_script}
 use Rattle.reply_assembler.proofs.play.Given as goal
 
-abbrev pub invariant-loop-i : goal.invariant-loop-i
-invariant-loop-i l =
-    (l.i ≤ l.rows) × (l.rows ≡ length l.script / 54) × SoundAssembler l.played.assembler
-    × (play_from (l.rows - l.i) l.played (drop (54 * l.i) l.script) ≡ play_script l.script)
-
-abbrev pub decreases-loop-i : goal.decreases-loop-i
-decreases-loop-i l = l.rows - l.i
+abbrev pub invariant-loop-row : goal.invariant-loop-row
+invariant-loop-row l =
+    let rest = chunks_exact_rest l.row-iterator in
+    record {
+      size : chunks_exact_size l.row-iterator ≡ 54;
+      sound : SoundAssembler l.played.assembler;
+      left : play_from (length rest / 54) l.played rest ≡ play_script l.script;
+    }

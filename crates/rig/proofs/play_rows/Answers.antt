@@ -2,63 +2,100 @@
 use mathlib.Core.Path.{refl, ◌∙◌}
 use native.Mathlib.Omega.{arith}
 use borrow.Author.Rules.{rules}
-use Rattle.rig.proofs.Laws.{unpowered_as, played_as_lem}
-use Rattle.rig.proofs.Playing.{leads_first, leads_again, leads_end}
-use Rattle.rig.proofs.Offers.{stored_keeps, offer_told, offer_leads}
+use Rattle.std.proofs.lemmas.List.{length_push}
+use Rattle.rig.proofs.Laws.{played_as_lem}
+use Rattle.rig.proofs.Playing.{begins_unpowered, plays_first, inside, plays_again, plays_end}
+use Rattle.rig.proofs.Offers.{says_it, stored, full, Does, offer_does, drain_does, write_does, power_does, recover_does, reset_does, flush_does}
 use Rattle.rig.proofs.play_rows.Goals as goal
+use Rattle.rig.proofs.play_rows.Goals.{in-Offer, in-Ok, in-Err, in-Drain, in-Write, in-Power, in-Recover, in-Reset, in-Flush}
 
 pub loop-i-init : goal.loop-i-init
 loop-i-init c =
-    let e = c.unpowered_bench-start.ensures in (
-      omega arith,
-      refl,
-      c.requires,
-      unpowered_as _ e,
-      leads_first _ _ _ _ _ e,
-      search rules,
-    )
+    record {
+      plays = plays_first _ _ _ _ _ _ (begins_unpowered _ _ _ c.new.ensures c.new-2.ensures c.unreported-played.ensures) c.requires (search rules);
+      size = search rules;
+      count = search rules;
+      fits = search rules;
+    }
+
+pub overflow_add-played : goal.overflow_add-played
+overflow_add-played c = record { fits = omega (arith, c.loop-i.invariant.plays.sound.queue.held) }
 
 pub tell-requires : goal.tell-requires
 tell-requires c =
-    let l = c.loop-i.invariant in (
-      offer_told c.loop-i.writer c.loop-i.queue _ _ _ _ c.place_behind-place.ensures.0 refl c.kept_or_offered-stored.ensures _ c.unreported.ensures l.3,
-      omega (arith, l.5, c.loop-i-test.true),
-    )
-
-pub loop-i-preserved-then-byte_at-eq0 : goal.loop-i-preserved-then-byte_at-eq0
-loop-i-preserved-then-byte_at-eq0 c =
-    let l = c.loop-i.invariant in (
-      omega (arith, c.loop-i-test.true),
-      l.1,
-      c.tell.auto.output ∙ l.2,
-      stored_keeps c.loop-i.writer c.loop-i.queue _ _ _ _ c.place_behind-place.ensures.0 refl c.kept_or_offered-stored.ensures l.3,
-      offer_leads c.loop-i.writer c.loop-i.queue _ _ _ _ c.place_behind-place.ensures.0 refl c.kept_or_offered-stored.ensures _ c.unreported.ensures
-          _ _ _ _ _ _ _ _ c.byte_at.ensures c.if-byte_at-eq0.true c.offered_record-record.ensures
-          (omega (arith, c.loop-i-test.true)) l.2 c.tell.ensures l.4,
-      l.5,
-    )
-
-pub tell-requires-in-loop-i : goal.tell-requires-in-loop-i
-tell-requires-in-loop-i c =
-    let l = c.loop-i.invariant in (
-      played_as_lem _ _ _ _ _ c.step-played.ensures.value l.3,
-      omega (arith, l.5, c.loop-i-test.true),
-    )
+    let p = c.loop-i.invariant in
+    let s = c.in-Some.ensures.steps in
+    let l = inside _ _ _ _ _ _ _ _ p.plays _ _ s.0.1.0 (s.0.1.1 ∙ p.size) in
+    let does : Does c.args.capacity_bytes c.loop-i.image c.loop-i.played.bench c.unwrap.result c.match-unwrap.image c.match-unwrap.played =
+    elim c.match-unwrap.branch [
+      | in-Offer w ↦ elim w.match-place_behind.branch [
+        | in-Ok v ↦
+            offer_does _ _ _ _ _ _ _ _ _ _ _ _ w.in-Offer.is w.played-is w.default-played.ensures v.played-is
+            (stored _ _ _ _ _ _ v.in-Ok.ensures.place refl refl) w.image-is
+        | in-Err v ↦
+            offer_does _ _ _ _ _ _ _ _ _ _ _ _ w.in-Offer.is w.played-is w.default-played.ensures v.played-is
+            (full _ _ _ _ _ _ _ v.in-Err.ensures.place refl v.number.ensures) w.image-is
+      ]
+      | in-Drain w ↦
+          drain_does _ _ _ _ _ _ _ _ _ w.in-Drain.is w.played-is w.drain.ensures.value (w.image-is ∙ w.drain.ensures.lent)
+      | in-Write w ↦
+          write_does _ _ _ _ _ _ _ _ _ _ w.in-Write.is w.played-is w.write.ensures.value (w.image-is ∙ w.write.ensures.lent)
+      | in-Power w ↦ power_does _ _ _ _ _ _ _ w.in-Power.is w.played-is w.power_on.ensures w.image-is
+      | in-Recover w ↦
+          recover_does _ _ _ _ _ _ _ _ _ w.played-is w.default-played-in-Recover.ensures w.image-is _ _ _ w.in-Recover.is
+          w.recover-played.ensures refl
+      | in-Reset w ↦
+          reset_does _ _ _ _ _ _ _ _ _ w.played-is w.default-played-in-Reset.ensures w.image-is w.in-Reset.is
+          w.reset_after_erase-played.ensures refl
+      | in-Flush w ↦
+          flush_does _ _ _ _ _ _ _ _ _ w.played-is w.default-played-in-Flush.ensures w.image-is _ _ _ w.in-Flush.is
+          w.flush_write_back-answer.ensures refl w.from.ensures
+    ]
+    in
+    (played_as_lem _ _ _ _ _ does.bench p.plays.sound, omega (arith, l, s.1, p.count, p.fits))
 
 pub loop-i-preserved : goal.loop-i-preserved
 loop-i-preserved c =
-    let l = c.loop-i.invariant in (
-      omega (arith, c.loop-i-test.true),
-      c.step-played.auto.image ∙ l.1,
-      c.tell-in-loop-i.auto.output ∙ l.2,
-      played_as_lem _ _ _ _ _ c.step-played.ensures.value l.3,
-      leads_again _ _ _ _ _ _ _ (omega (arith, c.loop-i-test.true)) _ _ _ _ l.2 c.step-played.ensures.value c.step-played.ensures.lent refl
-          c.tell-in-loop-i.ensures l.4,
-      l.5,
-    )
+    let p = c.loop-i.invariant in
+    let s = c.in-Some.ensures.steps in
+    let m = length_push c.loop-i.yielded (c.in-Some.i, c.in-Some.row) in
+    let does : Does c.args.capacity_bytes c.loop-i.image c.loop-i.played.bench c.unwrap.result c.match-unwrap.image c.match-unwrap.played =
+    elim c.match-unwrap.branch [
+      | in-Offer w ↦ elim w.match-place_behind.branch [
+        | in-Ok v ↦
+            offer_does _ _ _ _ _ _ _ _ _ _ _ _ w.in-Offer.is w.played-is w.default-played.ensures v.played-is
+            (stored _ _ _ _ _ _ v.in-Ok.ensures.place refl refl) w.image-is
+        | in-Err v ↦
+            offer_does _ _ _ _ _ _ _ _ _ _ _ _ w.in-Offer.is w.played-is w.default-played.ensures v.played-is
+            (full _ _ _ _ _ _ _ v.in-Err.ensures.place refl v.number.ensures) w.image-is
+      ]
+      | in-Drain w ↦
+          drain_does _ _ _ _ _ _ _ _ _ w.in-Drain.is w.played-is w.drain.ensures.value (w.image-is ∙ w.drain.ensures.lent)
+      | in-Write w ↦
+          write_does _ _ _ _ _ _ _ _ _ _ w.in-Write.is w.played-is w.write.ensures.value (w.image-is ∙ w.write.ensures.lent)
+      | in-Power w ↦ power_does _ _ _ _ _ _ _ w.in-Power.is w.played-is w.power_on.ensures w.image-is
+      | in-Recover w ↦
+          recover_does _ _ _ _ _ _ _ _ _ w.played-is w.default-played-in-Recover.ensures w.image-is _ _ _ w.in-Recover.is
+          w.recover-played.ensures refl
+      | in-Reset w ↦
+          reset_does _ _ _ _ _ _ _ _ _ w.played-is w.default-played-in-Reset.ensures w.image-is w.in-Reset.is
+          w.reset_after_erase-played.ensures refl
+      | in-Flush w ↦
+          flush_does _ _ _ _ _ _ _ _ _ w.played-is w.default-played-in-Flush.ensures w.image-is _ _ _ w.in-Flush.is
+          w.flush_write_back-answer.ensures refl w.from.ensures
+    ]
+    in
+    record {
+      plays =
+          plays_again _ _ _ _ _ _ _ _ p.plays _ _ s.0.1.0 (s.0.1.1 ∙ p.size) _ _ _ _ _ _ _ (s.1 ∙ p.count) m (says_it _ _ _ c.of.ensures.says c.unwrap.ensures) does.bench
+          refl does.picture c.tell.ensures c.tell.auto.output;
+      size = s.0.0 ∙ p.size;
+      count = omega (arith, s.2, p.count, m);
+      fits = p.fits;
+    }
 
 pub returns : goal.returns
 returns c =
-    let l = c.loop-i.invariant in
-    let e = leads_end _ _ _ _ _ _ _ (omega arith) (omega arith) l.2 l.4 in
+    let p = c.loop-i.invariant in
+    let e = plays_end _ _ _ _ _ _ _ _ p.plays (omega (arith, c.in-None.ensures.steps.0.1.0, p.size)) in
     record { image_after = e.returned; output_after = e.left }

@@ -1,13 +1,13 @@
 -- `script::is_script` meets its contract. The loop's invariant: every row before it is one. Assumes nothing.
-use Prim.Native.Nat.{◌-◌, ◌%◌, ◌≤◌}
 use mathlib.Core.Path.{◌≡◌}
-use mathlib.Core.Bool.{true}
 use lib.ListN.{length}
-use Rattle.script.specs.Script.{rows_in, each_is_row}
+use Rattle.std.specs.Slice.Iter.{chunks_exact_rest, chunks_exact_size}
+use Rattle.script.proofs.Rows.{Tested}
 use Rattle.script.proofs.is_script.Given as goal
 
-abbrev pub invariant-loop-i : goal.invariant-loop-i
-invariant-loop-i l = (l.rows ≡ rows_in l.script) × (length l.script % 288 ≡ 0) × (l.i ≤ l.rows) × (each_is_row l.script l.i ≡ true)
-
-abbrev pub decreases-loop-i : goal.decreases-loop-i
-decreases-loop-i l = l.rows - l.i
+abbrev pub invariant-loop-row : goal.invariant-loop-row
+invariant-loop-row l =
+    record {
+      tested : Tested l.script (length l.yielded) (chunks_exact_rest l.row-iterator);
+      size : chunks_exact_size l.row-iterator ≡ 288;
+    }

@@ -1,4 +1,4 @@
--- `store::program_bytes` meets its contract. The loop's invariant: the first i bytes are programmed. Assumes nothing.
+-- `store::program_bytes` meets its contract. Assumes nothing.
 use mathlib.Core.Path.{refl, ap, ◌∙◌}
 use lib.ListN.{length, length-set}
 use Rattle.store.specs.Store.{mask}
@@ -8,23 +8,15 @@ use native.Mathlib.Omega.{arith}
 use Rattle.store.proofs.program_bytes.Goals as goal
 
 pub loop-i-init : goal.loop-i-init
-loop-i-init c = (omega arith, refl, search (none_yet, rules))
+loop-i-init c = (refl, search (none_yet, rules))
 
 pub loop-i-preserved : goal.loop-i-preserved
-loop-i-preserved c =
-    let l = c.loop-i in (
-      omega arith,
-      simp length-set l.invariant.1,
-      one_more _ _ _ _ (omega arith) l.i (omega arith) _ _ l.invariant.2 c.kept-keep_byte.ensures,
-    )
-
-pub shape_of-image : goal.shape_of-image
-shape_of-image c = c.loop-i.invariant.1
+loop-i-preserved c = (simp length-set c.loop-i.invariant.0, search (one_more, rules))
 
 pub returns : goal.returns
 returns c =
     let l = c.loop-i in
     let k = mask c.args.succeeds c.args.keep.now in
-    l.invariant.2
+    l.invariant.1
     ∙ ap (so_far c.args.image.now c.args.at c.args.target.now k) {x = l.i} {y = length c.args.target.now} (omega arith)
     ∙ programmed_all c.args.image.now c.args.at c.args.target.now k

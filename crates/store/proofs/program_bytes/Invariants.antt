@@ -1,5 +1,4 @@
 -- `store::program_bytes` meets its contract. The loop's invariant: the first i bytes are programmed. Assumes nothing.
-use Prim.Native.Nat.{◌-◌, ◌≤◌}
 use mathlib.Core.Path.{◌≡◌}
 use lib.ListN.{length}
 use Rattle.store.specs.Store.{mask}
@@ -8,7 +7,4 @@ use Rattle.store.proofs.program_bytes.Given as goal
 
 abbrev pub invariant-loop-i : goal.invariant-loop-i
 invariant-loop-i l =
-    (l.i ≤ length l.target) × (length l.image ≡ length l.initial.image) × (l.image ≡ so_far l.initial.image l.at l.target (mask l.succeeds l.keep) l.i)
-
-abbrev pub decreases-loop-i : goal.decreases-loop-i
-decreases-loop-i l = length l.target - l.i
+    (length l.image ≡ length l.initial.image) × (l.image ≡ so_far l.initial.image l.at l.target (mask l.succeeds l.keep) l.i)

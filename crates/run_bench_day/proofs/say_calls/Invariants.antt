@@ -1,9 +1,0 @@
--- `run_bench_day::say_calls` is safe and ends. Assumes nothing.
-use Prim.Native.Nat.{◌-◌, ◌≤◌}
-use Rattle.run_bench_day.proofs.say_calls.Given as goal
-
-abbrev pub invariant-loop-row : goal.invariant-loop-row
-invariant-loop-row l = l.row ≤ 45
-
-abbrev pub decreases-loop-row : goal.decreases-loop-row
-decreases-loop-row l = 45 - l.row
