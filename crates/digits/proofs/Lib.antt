@@ -1,2 +1,3 @@
 pub mod Notation
 pub mod Pushed
+pub mod Padded

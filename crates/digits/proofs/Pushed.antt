@@ -8,7 +8,9 @@ use lib.ListN.{length, take, drop, replicate}
 use lib.Seq.{length-take-le, take-append-add, take_all, take-nil}
 use Rattle.std.proofs.lemmas.List.{take_min, drop-replicate}
 use Rattle.std.proofs.lemmas.Slice.{take-put_mid}
+use Rattle.std.proofs.Common.{append-nil, append_assoc}
 use Rattle.blackbox.specs.Page.{padded}
+use Rattle.digits.proofs.Notation.{same_decimal, decimal_small, decimal_more}
 
 -- a part of the array's bytes, written behind the text
 pub laid : (room len n : ℕ) (held b ys text : List ℕ) → length held ≡ room → len ≤ room → n ≡ min (length b) (room - len) → ys ≡ take n b
@@ -28,6 +30,9 @@ pub pushed : (room : ℕ) (a b : List ℕ) → take room (take room a ++ b) ≡ 
 pushed zero a b = refl
 pushed (suc room) [] b = refl
 pushed (suc room) (x ∷ a) b = ap {B = List ℕ} (λ (l : List ℕ). x ∷ l) (pushed room a b)
+
+-- a number behind a text, in one push or several
+pub ruleset numbers = (same_decimal, decimal_small, decimal_more, pushed, append-nil, append_assoc)
 
 -- one push after another: what they make, and the pieces behind one another
 abbrev pub pushes : ℕ → List ℕ → List (List ℕ) → List ℕ

@@ -1,2 +1,3 @@
 pub mod Decimal
 pub mod Laws
+pub mod Held

@@ -1,12 +1,15 @@
-// A text in fixed memory: at most N bytes. What does not fit is left out.
+// A text in fixed memory: at most N bytes. What does not fit is left out. Behind the text the array holds 0x00, so that its bytes alone
+// give the whole value back, which a copy needs.
 ghost use Rattle.std.specs.Prelude.{◌≡◌, ◌≤◌, ℕ, List, [], ◌++◌, length, take};
+ghost use Rattle.std.proofs.Common.{sym};
 ghost use Rattle.blackbox.specs.Page.{padded};
 ghost use Rattle.digits.specs.Decimal.{decimal_of};
+ghost use Rattle.digits.specs.Held.{held_whole};
 
 use itoa::Buffer;
 use std::marker::Model;
 
-#[derive(Drop)]
+#[derive(Clone, Copy)]
 pub struct Text<const N: usize> {
     len: usize,
     bytes: [u8; N],
@@ -18,10 +21,15 @@ impl<const N: usize> Model for Text<N> {
 
     ghost view = { λ t. take t.len t.bytes };
 
-    ghost invariant = { λ t. t.len ≤ N };
+    ghost invariant = { λ t. (t.len ≤ N) × (t.bytes ≡ padded N 0 (take t.len t.bytes)) };
+
+    ghost inverse = { λ s. record { len = length s; bytes = padded N 0 s } };
+
+    ghost inverse_ok = { λ t h i. record { len = held_whole N t.len t.bytes h.0 h.1 i; bytes = sym h.1 i } };
 }
 
 impl<const N: usize> Text<N> {
+    #[tactic(auto, using(crate::proofs::Padded::empty_padded))]
     pub fn new() -> Text<N>
         ensures { result ≡ [] }
     {
@@ -34,7 +42,7 @@ impl<const N: usize> Text<N> {
     pub fn len(&self) -> usize
         ensures { result ≡ length self.now }
     {
-        self.len
+        self.as_slice().len()
     }
 
     pub fn as_slice(&self) -> &[u8]
@@ -63,6 +71,7 @@ impl<const N: usize> Text<N> {
     }
 
     // A number behind the text, as Rust prints it: no leading zeros, and "0" for 0.
+    #[tactic(auto, using(crate::proofs::Pushed::numbers))]
     pub fn push_number(&mut self, n: u32)
         ensures { self.new ≡ take N (self.old ++ decimal_of n) }
     {

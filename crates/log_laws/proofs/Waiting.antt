@@ -53,7 +53,7 @@ module _ (w : LogWriter) (q : RecordQueue) where
 
       go : (x y : Bool) (o : Option (List ℕ)) → has_pending w ≡ y → w.assembler.ready_page ≡ o → has_pending (out x y o) ≡ true → SamePage w (out x y o)
       go true true o e r h = inl (h, refl)
-      go true false (Some page) e r h = inr (e, ap (λ (o : Option (List ℕ)). is_some o) r, sym r)
+      go true false (Some page) e r h = inr (e, ap (λ (o : Option (List ℕ)). is_some o) r, cc)
       go true false None e r h = inl (h, refl)
       go false y o e r h = inl (h, refl)
 

@@ -5,9 +5,9 @@
 ghost use Rattle.std.specs.Prelude.{◌≡◌, ◌+◌, ◌≤◌, length};
 ghost use Rattle.laws.specs.Answers.{told};
 ghost use Rattle.assembler.specs.WellFormed.{SoundAssembler};
-ghost use Rattle.reply_assembler.specs.Script.{flagged, assembled, took, found_unfinished, play_row, play_script, played_row, last_played};
+ghost use Rattle.reply_assembler.specs.Script.{flagged, as_flag, play_row, play_script, played_row, last_played};
 
-use assembler::{Assembled, PageAssembler, ReadyPage};
+use assembler::PageAssembler;
 use blackbox::FlightRecord;
 use laws::Refusal;
 
@@ -35,49 +35,46 @@ fn flagged(flag: bool, assembler: PageAssembler) -> Played
     }
 }
 
-fn assembled(a: Assembled) -> Played
-    ensures { result ≡ assembled a }
+// What push and stop answer.
+fn as_flag(page_ready: Result<bool, Refusal>) -> Result<Told, Refusal>
+    ensures { result ≡ as_flag page_ready }
 {
-    Played {
-        answer: a.page_ready.map(Told::Flag),
-        assembler: a.assembler,
-    }
+    page_ready.map(Told::Flag)
 }
 
-fn took(p: ReadyPage) -> Played
-    ensures { result ≡ took p }
-{
-    Played {
-        answer: Ok(Told::Page(p.page)),
-        assembler: p.assembler,
-    }
-}
-
-fn found_unfinished(assembler: PageAssembler, flight: Option<u32>) -> Played
-    ensures { result ≡ found_unfinished assembler flight }
-{
-    Played {
-        answer: Ok(Told::Unfinished(flight)),
-        assembler,
-    }
-}
-
-// One row: the call at 0, its flag at 1, its flight at 2, its record at 6.
-fn play_row(assembler: PageAssembler, row: &[u8]) -> Played
-    requires { SoundAssembler assembler × (6 + 48 ≤ length row.now) }
-    ensures { result ≡ play_row assembler row.now }
+// One row: the call at 0, its flag at 1, its flight at 2, its record at 6. What was played before is laid over, so that a call that
+// only asks copies no assembler.
+fn play_row(done: &mut Played, row: &[u8])
+    requires { SoundAssembler done.old.assembler × (6 + 48 ≤ length row.now) }
+    ensures { done.new ≡ play_row done.old.assembler row.now }
 {
     let flag = row[1] != 0;
     match row[0] {
-        1 => flagged(false, assembler.start(words::number_at(row, 2), flag)),
+        1 => {
+            done.assembler = done.assembler.start(words::number_at(row, 2), flag);
+            done.answer = Ok(Told::Flag(false));
+        }
         2 => {
             let record = FlightRecord::decode(&row[6..54]).unwrap_or_default();
-            assembled(assembler.push(record))
+            let pushed = done.assembler.push(record);
+            done.assembler = pushed.assembler;
+            done.answer = as_flag(pushed.page_ready);
         }
-        3 => assembled(assembler.stop()),
-        4 => took(assembler.take_ready_page()),
-        5 => found_unfinished(assembler, assembler.unfinished_flight(flag)),
-        _ => flagged(assembler.recording(), assembler),
+        3 => {
+            let stopped = done.assembler.stop();
+            done.assembler = stopped.assembler;
+            done.answer = as_flag(stopped.page_ready);
+        }
+        4 => {
+            let ready = done.assembler.take_ready_page();
+            done.assembler = ready.assembler;
+            done.answer = Ok(Told::Page(ready.page));
+        }
+        5 => {
+            let flight = done.assembler.unfinished_flight(flag);
+            done.answer = Ok(Told::Unfinished(flight));
+        }
+        _ => done.answer = Ok(Told::Flag(done.assembler.recording())),
     }
 }
 
@@ -88,7 +85,7 @@ fn play(script: &[u8]) -> Played
 {
     let mut played = flagged(false, PageAssembler::new());
     for row in script.chunks_exact(54) {
-        played = play_row(played.assembler, row);
+        play_row(&mut played, row);
     }
     played
 }

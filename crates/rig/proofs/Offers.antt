@@ -3,16 +3,12 @@ use Prim.Native.Nat.{ℕ, ◌+◌}
 use mathlib.Core.Path.{◌≡◌, refl, sym, ap, ◌∙◌, subst}
 use mathlib.Core.Bool.{Bool, true, false}
 use mathlib.Core.List.{List}
-use lib.ListN.{set}
 use mir.Val.{bool_byte}
 use denote.Ref.{Bor}
-use Rattle.laws.specs.Answers.{gives, refuses}
 use Rattle.blackbox.specs.declared.FlightRecord.{FlightRecord}
 use Rattle.store.specs.Store.{no_faults}
 use Rattle.records.specs.Scan.{scanned}
-use Rattle.queue.specs.Queue.{record_queue, offered, place_behind}
-use Rattle.queue.specs.declared.RecordQueue.{RecordQueue}
-use Rattle.queue.proofs.Ways.{offer_placed, offer_refused}
+use Rattle.queue.specs.Queue.{offered}
 use Rattle.log_state.specs.Writer.{recovered}
 use Rattle.log_state.specs.Flush.{flushed}
 use Rattle.log_state.specs.declared.LogWriter.{LogWriter}
@@ -34,19 +30,6 @@ use Rattle.rig.specs.declared.Played.{Played}
 pub says_it : (r : Option Code.Operation) (o : Code.Operation) (row : List ℕ) → IfSome r (λ o. (said o ≡ operation_in row) × Fitting o) → r ≡ Some o
     → said o ≡ operation_in row
 says_it r o row h e = let k = subst (λ (x : Option Code.Operation). IfSome x (λ o. (said o ≡ operation_in row) × Fitting o)) e h in k.0
-
--- ---- an offered record that is stored where the queue stands
-
-module _ (w : LogWriter) (q : RecordQueue) (r : FlightRecord) (u : RecordQueue) (n : ℕ) where
-  pub stored : (at : ℕ) → gives at ≡ place_behind q.first q.held → u ≡ record_queue (set q.slots at r) q.first (q.held + 1) → n ≡ 0
-      → playing w u n 0 0 0 ≡ offering w (offered q r)
-  stored at e eu en = (λ k. playing w (eu k) (en k) 0 0 0) ∙ ap (offering w) (offer_placed q r at e)
-
-  pub full : (number fault : ℕ) → refuses number fault ≡ place_behind q.first q.held → u ≡ q → n ≡ number
-      → playing w u n 0 0 0 ≡ offering w (offered q r)
-  full number fault e eu en =
-      let f = offer_refused q r number fault e in
-      (λ k. playing w (eu k) ((en ∙ f.0) k) 0 0 0) ∙ ap (offering w) f.1
 
 -- ---- a call without a report
 
@@ -75,11 +58,9 @@ module _ (c : ℕ) (image : List ℕ) (b : Bench) (o : Code.Operation) (image' :
         picture = em ∙ ap (λ (z : Code.Operation). image_after c (said z) b image) (sym e);
       }
 
-  pub offer_does : (r : FlightRecord) (p : Played) (before d : DrainReport) (u : RecordQueue) (n : ℕ) → o ≡ Offer r → x ≡ told p.bench p.outcome d
-      → None d → p ≡ told (bench b.writer u) n before → playing b.writer u n 0 0 0 ≡ offering b.writer (offered b.queue r) → image' ≡ image → Does
+  pub offer_does : (r : FlightRecord) (p : Played) → o ≡ Offer r → x ≡ p → p ≡ offering b.writer (offered b.queue r) → image' ≡ image → Does
   unfolding played image_after
-  offer_does r p before d u n e ex z ep h em =
-      does (Offer r) e (quiet p.bench p.outcome x d ex z ∙ ap (λ (y : Played). playing y.bench.writer y.bench.queue y.outcome 0 0 0) ep ∙ h) em
+  offer_does r p e ex ep em = does (Offer r) e (ex ∙ ep) em
 
   pub drain_does : (order : DrainOrder) (keep : Bor (List ℕ)) (p : Played) → o ≡ Drain order keep → x ≡ p
       → p ≡ played c (drains order keep.now) b image → image' ≡ image_after c (drains order keep.now) b image → Does

@@ -9,11 +9,13 @@ ghost use Rattle.words.specs.Words.{placed};
 ghost use Rattle.laws.specs.Answers.{told};
 ghost use Rattle.store.specs.Store.{no_faults};
 ghost use Rattle.records.specs.Scan.{scanned};
+ghost use Rattle.queue.specs.Queue.{offered};
 ghost use Rattle.script.specs.Script.{drains, writes, operations, rows_in};
-ghost use Rattle.rig.specs.Rig.{unpowered, playing, powering, played, image_after};
+ghost use Rattle.rig.specs.Rig.{unpowered, playing, offering, powering, played, image_after};
 ghost use Rattle.rig.specs.Rig.{tells_of, plays_image, tells, play_told, after_play, output_after};
 ghost use Rattle.rig.specs.Laws.{SoundBench};
 
+use blackbox::FlightRecord;
 use laws::Refusal;
 use log_state::LogWriter;
 use log_writer::{DrainOrder, DrainReport, NextProgram, PageWrite};
@@ -50,8 +52,20 @@ fn unreported(writer: LogWriter, queue: RecordQueue, outcome: u8) -> Played
     }
 }
 
-// A drain's outcome is 1 if the power was cut. What was played before is lent, here and below, and laid over, so that the frame of the
-// rows has one place for it and no other.
+// An offered record is stored where the queue stands, so that no slot is copied. What was played before is lent, here and below, and laid
+// over, so that the frame of the rows has one place for it and no other.
+fn offer(done: &mut Played, record: FlightRecord)
+    requires { SoundBench done.old.bench }
+    ensures { done.new ≡ offering done.old.bench.writer (offered done.old.bench.queue «record») }
+{
+    done.outcome = match done.bench.queue.store(record) {
+        Ok(()) => 0,
+        Err(refusal) => refusal.number(),
+    };
+    done.report = DrainReport::default();
+}
+
+// A drain's outcome is 1 if the power was cut.
 #[tactic(auto, unfolding(crate::specs::Rig::played, crate::specs::Rig::image_after))]
 fn drain(done: &mut Played, capacity_bytes: u32, image: &mut [u8], order: DrainOrder, keep: &[u8])
     requires { SoundBench done.old.bench }
@@ -173,8 +187,7 @@ fn tell(output: &mut [u8], index: usize, played: &Played)
     words::put_bytes(output, index * TELL_LEN, &tells_of(played));
 }
 
-// The rows of a script, one after another. An offered record is stored where the queue stands, and a call that needs the writer alone
-// is handed no queue, so that no slot is copied for it.
+// The rows of a script, one after another. A call that needs the writer alone is handed no queue, so that no slot is copied for it.
 fn play_rows(capacity_bytes: u32, image: &mut [u8], script: &[u8], output: &mut [u8])
     requires { length output.old ≡ rows_in script.now * 40 }
     ensures image_after { image.new ≡ plays_image capacity_bytes (operations script.now) unpowered image.old }
@@ -183,17 +196,7 @@ fn play_rows(capacity_bytes: u32, image: &mut [u8], script: &[u8], output: &mut 
     let mut played = unreported(LogWriter::new(), RecordQueue::new(), 0);
     for (i, row) in script.chunks_exact(script::ROW_LEN).enumerate() {
         match Operation::of(row).unwrap() {
-            Operation::Offer(record) => {
-                match queue::place_behind(played.bench.queue.first, played.bench.queue.held) {
-                    Ok(at) => {
-                        played.bench.queue.slots[at] = record;
-                        played.bench.queue.held += 1;
-                        played.outcome = 0;
-                    }
-                    Err(refusal) => played.outcome = refusal.number(),
-                }
-                played.report = DrainReport::default();
-            }
+            Operation::Offer(record) => offer(&mut played, record),
             Operation::Drain(order, keep) => {
                 drain(&mut played, capacity_bytes, image, order, keep);
             }

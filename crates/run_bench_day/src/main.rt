@@ -1,11 +1,11 @@
 // A bench day on the rig: a flight with a failed program, a brown-out in mid-page, a second one before anything is written, and a flight
 // after it. One script plays it on an erased log of 20,480 bytes; then each call that the writer or the scan answered is printed, the
 // pages that are on flash, and for each power-on the records that were logged and those that are missing. Records are numbered from 1.
+// What standard output does not take is lost, and no status tells it.
 #![tactic(auto)]
 
 use blackbox::{FlightRecord, RECORD_LEN};
 use log_writer::{DrainOrder, NextProgram};
-use std::io;
 
 const CAPACITY: u32 = 20480;
 
@@ -139,54 +139,58 @@ fn put_programs(row: &mut [u8], succeed: u32, next: NextProgram) {
 }
 
 // What a call told, but for offers: its own answer, where the log goes on, and how many records wait.
-fn say_told(rt: &impl Print, call: Call, told: &[u8]) -> io::Result<()> {
+fn say_told(rt: &impl Print, call: Call, told: &[u8]) {
     let outcome = words::byte_at(told, 0);
     match call {
-        Offer(_) => return Ok(()),
+        Offer(_) => return,
         Drain(_) => {
             let written: u32 = words::number_at(told, 8);
-            print!(rt; "drain: power cut {outcome}, pages written {written}")?;
+            let _ = print!(rt; "drain: power cut {outcome}, pages written {written}");
         }
-        WritePending { .. } => print!(rt; "write_pending: outcome {outcome}")?,
-        PowerOn => print!(rt; "power on: writable {}", words::byte_at(told, 1))?,
+        WritePending { .. } => {
+            let _ = print!(rt; "write_pending: outcome {outcome}");
+        }
+        PowerOn => {
+            let _ = print!(rt; "power on: writable {}", words::byte_at(told, 1));
+        }
     }
     let page: u32 = words::number_at(told, 20);
     let flight: u32 = words::number_at(told, 24);
     let waiting = words::byte_at(told, 5);
-    println!(rt; ", next page {page}, next flight {flight}, queue {waiting}")
+    let _ = println!(rt; ", next page {page}, next flight {flight}, queue {waiting}");
 }
 
-fn say_calls(rt: &impl Print, output: &[[u8; rig::TELL_LEN]]) -> io::Result<()> {
+fn say_calls(rt: &impl Print, output: &[[u8; rig::TELL_LEN]]) {
     for (call, told) in DAY.into_iter().zip(output) {
-        say_told(rt, call, told)?;
+        say_told(rt, call, told);
     }
-    Ok(())
 }
 
-fn say_page(rt: &impl Print, index: u32, page: &[u8]) -> io::Result<()> {
+fn say_page(rt: &impl Print, index: u32, page: &[u8]) {
     match blackbox::decode_page(page) {
         Ok(said) => {
-            print!(rt; "page {index}: flight {}, records", said.flight_id)?;
+            let _ = print!(rt; "page {index}: flight {}, records", said.flight_id);
             for row in page
                 .chunks_exact(RECORD_LEN)
                 .take(usize::from(said.record_count))
             {
-                print!(rt; " {}", words::number_at::<u32>(row, 0))?;
+                let _ = print!(rt; " {}", words::number_at::<u32>(row, 0));
             }
-            println!(rt)
+            let _ = println!(rt);
         }
-        Err(_) => println!(rt; "page {index}: torn"),
+        Err(_) => {
+            let _ = println!(rt; "page {index}: torn");
+        }
     }
 }
 
-fn say_pages(rt: &impl Print, image: &[u8]) -> io::Result<()> {
+fn say_pages(rt: &impl Print, image: &[u8]) {
     for index in 0..PAGES {
         let page = records::page_part(image, index);
         if !records::is_blank(page) {
-            say_page(rt, index, page)?;
+            say_page(rt, index, page);
         }
     }
-    Ok(())
 }
 
 // Whether the record of a number is in a whole page, in a row that the page counts.
@@ -232,18 +236,18 @@ impl Day {
 }
 
 // What was logged in a power-on, and what of that is missing.
-fn say_logged(rt: &impl Print, image: &[u8], day: Day) -> io::Result<()> {
-    print!(rt; "logged {} to {}, missing", day.first, day.last)?;
+fn say_logged(rt: &impl Print, image: &[u8], day: Day) {
+    let _ = print!(rt; "logged {} to {}, missing", day.first, day.last);
     for record in day.first..=day.last {
         if !on_flash(image, record) {
-            print!(rt; " {record}")?;
+            let _ = print!(rt; " {record}");
         }
     }
-    println!(rt)
+    let _ = println!(rt);
 }
 
 // At each power-on the one before it is told, and the last one at the end.
-fn say_power_ons(rt: &impl Print, image: &[u8], output: &[[u8; rig::TELL_LEN]]) -> io::Result<()> {
+fn say_power_ons(rt: &impl Print, image: &[u8], output: &[[u8; rig::TELL_LEN]]) {
     let mut day = Day {
         offered: 0,
         first: 1,
@@ -251,14 +255,14 @@ fn say_power_ons(rt: &impl Print, image: &[u8], output: &[[u8; rig::TELL_LEN]]) 
     };
     for (call, told) in DAY.into_iter().zip(output) {
         if matches!(call, PowerOn) && 0 < day.last {
-            say_logged(rt, image, day)?;
+            say_logged(rt, image, day);
         }
         day = day.after(call, told);
     }
-    say_logged(rt, image, day)
+    say_logged(rt, image, day);
 }
 
-fn main(rt: HostRuntime) -> io::Result<()> {
+fn main(rt: HostRuntime) {
     let mut image = [0xffu8; CAPACITY as usize];
     let script = DAY.map(Call::row);
     let mut output = [[0u8; rig::TELL_LEN]; 45];
@@ -269,9 +273,10 @@ fn main(rt: HostRuntime) -> io::Result<()> {
         output.as_flattened_mut(),
     );
     if let Err(refusal) = played {
-        return println!(rt; "refused {}", refusal.number());
+        let _ = println!(rt; "refused {}", refusal.number());
+        return;
     }
-    say_calls(&rt, &output)?;
-    say_pages(&rt, &image)?;
-    say_power_ons(&rt, &image, &output)
+    say_calls(&rt, &output);
+    say_pages(&rt, &image);
+    say_power_ons(&rt, &image, &output);
 }

@@ -1,11 +1,11 @@
 // Fills a row through the proved code with lists of no flight, of three, of eight and of nine, and prints what is left in it; the file
 // stdout beside src/ has what must come out.
+// What standard output does not take is lost, and no status tells it.
 #![tactic(auto)]
 
 use log_search::StoredFlight;
 use log_sync::Unsynced;
 use rows::FilledRow;
-use std::io;
 
 fn flight(flight_id: u32) -> StoredFlight {
     StoredFlight {
@@ -29,21 +29,20 @@ fn listed(count: usize) -> Unsynced {
     }
 }
 
-fn show(rt: &impl Print, filled: FilledRow) -> io::Result<()> {
+fn show(rt: &impl Print, filled: FilledRow) {
     let refused = match filled.answer {
         Ok(()) => 0,
         Err(refusal) => refusal.number(),
     };
-    print!(rt; "refused {refused}:")?;
+    let _ = print!(rt; "refused {refused}:");
     for flight in &filled.row {
-        print!(rt; " {}", flight.flight_id)?;
+        let _ = print!(rt; " {}", flight.flight_id);
     }
-    println!(rt)
+    let _ = println!(rt);
 }
 
-fn main(rt: HostRuntime) -> io::Result<()> {
+fn main(rt: HostRuntime) {
     for count in [0, 3, 8, 9] {
-        show(&rt, rows::filled_row(row(), listed(count)))?;
+        show(&rt, rows::filled_row(row(), listed(count)));
     }
-    Ok(())
 }

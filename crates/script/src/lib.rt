@@ -120,6 +120,8 @@ impl<'a> Operation<'a> {
         }
     }
 
+    // Inlined: as a call it handed back a copy of the operation, twice for each row.
+    #[inline(always)]
     #[tactic(auto, using(crate::proofs::Rows::reads))]
     fn read(row: &'a [u8]) -> Operation<'a>
         requires { length row.now ≡ 288 }

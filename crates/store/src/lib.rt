@@ -93,6 +93,16 @@ fn is_sector(capacity_bytes: u32, address: u32) -> bool
     address < capacity_bytes && address % 4096 == 0
 }
 
+// Bytes copied one after another. The library's copy becomes a call of C's memmove where a read has any length.
+fn copy_bytes(output: &mut [u8], bytes: &[u8])
+    requires { length bytes.now ≡ length output.old }
+    ensures { output.new ≡ bytes.now }
+{
+    for (i, byte) in bytes.iter().enumerate() {
+        output[i] = *byte;
+    }
+}
+
 impl Flash<'_> {
     // Whether image and fault bytes have the lengths of the capacity.
     pub fn checked(&self) -> Result<(), Refusal>
@@ -123,7 +133,7 @@ impl Flash<'_> {
         }
         let at = address as usize;
         let end = at + output.len();
-        output.copy_from_slice(&self.image[at..end]);
+        copy_bytes(output, &self.image[at..end]);
         Ok(())
     }
 }

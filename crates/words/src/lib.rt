@@ -79,6 +79,7 @@ impl Number for u32 {
 
     ghost read = { u32_at };
 
+    #[tactic(auto, unfolding(crate::specs::Words::le_bytes))]
     fn put(self, out: &mut [u8], at: usize) {
         put_bytes(out, at, &u32_bytes(self));
     }
@@ -128,11 +129,11 @@ impl Number for i16 {
     ghost read = { λ l at. signed16 (u16_at l at) };
 
     fn put(self, out: &mut [u8], at: usize) {
-        self.cast_unsigned().put(out, at);
+        to_u16(self).put(out, at);
     }
 
     fn read_at(s: &[u8], at: usize) -> i16 {
-        u16::read_at(s, at).cast_signed()
+        to_i16(u16::read_at(s, at))
     }
 }
 
@@ -150,10 +151,16 @@ pub fn number_at<N: Number>(s: &[u8], at: usize) -> N
     N::read_at(s, at)
 }
 
-// Whether two slices hold the same bytes.
-#[tactic(auto, using(crate::proofs::Same::pointwise_same))]
+// Whether two slices hold the same bytes. There is no early end: with one the bytes would be compared one at a time.
 pub fn same_bytes(a: &[u8], b: &[u8]) -> bool
     ensures { result ≡ same_bytes a.now b.now }
 {
-    a == b
+    if a.len() != b.len() {
+        return false;
+    }
+    let mut differ = 0u8;
+    for (x, y) in a.iter().zip(b) {
+        differ |= x ^ y;
+    }
+    differ == 0
 }

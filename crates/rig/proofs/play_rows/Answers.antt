@@ -5,9 +5,9 @@ use borrow.Author.Rules.{rules}
 use Rattle.std.proofs.lemmas.List.{length_push}
 use Rattle.rig.proofs.Laws.{played_as_lem}
 use Rattle.rig.proofs.Playing.{begins_unpowered, plays_first, inside, plays_again, plays_end}
-use Rattle.rig.proofs.Offers.{says_it, stored, full, Does, offer_does, drain_does, write_does, power_does, recover_does, reset_does, flush_does}
+use Rattle.rig.proofs.Offers.{says_it, Does, offer_does, drain_does, write_does, power_does, recover_does, reset_does, flush_does}
 use Rattle.rig.proofs.play_rows.Goals as goal
-use Rattle.rig.proofs.play_rows.Goals.{in-Offer, in-Ok, in-Err, in-Drain, in-Write, in-Power, in-Recover, in-Reset, in-Flush}
+use Rattle.rig.proofs.play_rows.Goals.{in-Offer, in-Drain, in-Write, in-Power, in-Recover, in-Reset, in-Flush}
 
 pub loop-i-init : goal.loop-i-init
 loop-i-init c =
@@ -18,9 +18,6 @@ loop-i-init c =
       fits = search rules;
     }
 
-pub overflow_add-played : goal.overflow_add-played
-overflow_add-played c = record { fits = omega (arith, c.loop-i.invariant.plays.sound.queue.held) }
-
 pub tell-requires : goal.tell-requires
 tell-requires c =
     let p = c.loop-i.invariant in
@@ -28,21 +25,14 @@ tell-requires c =
     let l = inside _ _ _ _ _ _ _ _ p.plays _ _ s.0.1.0 (s.0.1.1 ∙ p.size) in
     let does : Does c.args.capacity_bytes c.loop-i.image c.loop-i.played.bench c.unwrap.result c.match-unwrap.image c.match-unwrap.played =
     elim c.match-unwrap.branch [
-      | in-Offer w ↦ elim w.match-place_behind.branch [
-        | in-Ok v ↦
-            offer_does _ _ _ _ _ _ _ _ _ _ _ _ w.in-Offer.is w.played-is w.default-played.ensures v.played-is
-            (stored _ _ _ _ _ _ v.in-Ok.ensures.place refl refl) w.image-is
-        | in-Err v ↦
-            offer_does _ _ _ _ _ _ _ _ _ _ _ _ w.in-Offer.is w.played-is w.default-played.ensures v.played-is
-            (full _ _ _ _ _ _ _ v.in-Err.ensures.place refl v.number.ensures) w.image-is
-      ]
+      | in-Offer w ↦ offer_does _ _ _ _ _ _ _ _ w.in-Offer.is w.played-is w.offer.ensures w.image-is
       | in-Drain w ↦
           drain_does _ _ _ _ _ _ _ _ _ w.in-Drain.is w.played-is w.drain.ensures.value (w.image-is ∙ w.drain.ensures.lent)
       | in-Write w ↦
           write_does _ _ _ _ _ _ _ _ _ _ w.in-Write.is w.played-is w.write.ensures.value (w.image-is ∙ w.write.ensures.lent)
       | in-Power w ↦ power_does _ _ _ _ _ _ _ w.in-Power.is w.played-is w.power_on.ensures w.image-is
       | in-Recover w ↦
-          recover_does _ _ _ _ _ _ _ _ _ w.played-is w.default-played-in-Recover.ensures w.image-is _ _ _ w.in-Recover.is
+          recover_does _ _ _ _ _ _ _ _ _ w.played-is w.default-played.ensures w.image-is _ _ _ w.in-Recover.is
           w.recover-played.ensures refl
       | in-Reset w ↦
           reset_does _ _ _ _ _ _ _ _ _ w.played-is w.default-played-in-Reset.ensures w.image-is w.in-Reset.is
@@ -61,21 +51,14 @@ loop-i-preserved c =
     let m = length_push c.loop-i.yielded (c.in-Some.i, c.in-Some.row) in
     let does : Does c.args.capacity_bytes c.loop-i.image c.loop-i.played.bench c.unwrap.result c.match-unwrap.image c.match-unwrap.played =
     elim c.match-unwrap.branch [
-      | in-Offer w ↦ elim w.match-place_behind.branch [
-        | in-Ok v ↦
-            offer_does _ _ _ _ _ _ _ _ _ _ _ _ w.in-Offer.is w.played-is w.default-played.ensures v.played-is
-            (stored _ _ _ _ _ _ v.in-Ok.ensures.place refl refl) w.image-is
-        | in-Err v ↦
-            offer_does _ _ _ _ _ _ _ _ _ _ _ _ w.in-Offer.is w.played-is w.default-played.ensures v.played-is
-            (full _ _ _ _ _ _ _ v.in-Err.ensures.place refl v.number.ensures) w.image-is
-      ]
+      | in-Offer w ↦ offer_does _ _ _ _ _ _ _ _ w.in-Offer.is w.played-is w.offer.ensures w.image-is
       | in-Drain w ↦
           drain_does _ _ _ _ _ _ _ _ _ w.in-Drain.is w.played-is w.drain.ensures.value (w.image-is ∙ w.drain.ensures.lent)
       | in-Write w ↦
           write_does _ _ _ _ _ _ _ _ _ _ w.in-Write.is w.played-is w.write.ensures.value (w.image-is ∙ w.write.ensures.lent)
       | in-Power w ↦ power_does _ _ _ _ _ _ _ w.in-Power.is w.played-is w.power_on.ensures w.image-is
       | in-Recover w ↦
-          recover_does _ _ _ _ _ _ _ _ _ w.played-is w.default-played-in-Recover.ensures w.image-is _ _ _ w.in-Recover.is
+          recover_does _ _ _ _ _ _ _ _ _ w.played-is w.default-played.ensures w.image-is _ _ _ w.in-Recover.is
           w.recover-played.ensures refl
       | in-Reset w ↦
           reset_does _ _ _ _ _ _ _ _ _ w.played-is w.default-played-in-Reset.ensures w.image-is w.in-Reset.is

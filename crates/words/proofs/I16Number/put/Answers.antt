@@ -3,4 +3,4 @@ use Rattle.words.proofs.Signed.{signed_bits}
 use Rattle.words.proofs.I16Number.put.Goals as goal
 
 pub returns : goal.returns
-returns c = rw (c.cast_unsigned.ensures, signed_bits c.args.self c.ranges.self) at c.put.ensures
+returns c = rw (c.to_u16.ensures, signed_bits c.args.self c.ranges.self) at c.put.ensures
